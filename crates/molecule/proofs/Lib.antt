@@ -1,0 +1,2 @@
+-- The theory of the record's graph.
+pub mod Growing
