@@ -5,9 +5,10 @@ use mathlib.Core.Bool.{Bool, true, false, true≢false}
 use Prim.Native.Nat.{ℕ, zero, suc, _+_, _-_, _^_, _<_}
 use native.Mathlib.Omega.{arith}
 use native.Mathlib.Nat.{one-mul}
+use native.Mathlib.Numerals.{add-one}
 use native.Mathlib.Decide.{ℕ-discrete}
 use lib.Pow.{pow-pos}
-use lib.Bits.{bitAnd, bitOr, or-shifted}
+use lib.Bits.{bitAnd, bitOr, or-shifted, or-comm}
 use lib.Count.{trailingZeros}
 use Rattle.bitset.specs.Bits.{bit, Sub, Disjoint, diff, setOf}
 use Rattle.bitset.proofs.Bools.{two}
@@ -38,6 +39,9 @@ and-in s t i h k = omega (arith, bit-and s t i)
 
 pub diff-in : (s t i : ℕ) → bit s i ≡ 1 → bit t i ≡ 0 → bit (diff s t) i ≡ 1
 diff-in s t i h k = omega (arith, bit-diff s t i)
+
+pub diff-sub : (s t : ℕ) → Sub (diff s t) s
+diff-sub s t = sub-of (diff s t) s (λ i h. omega (arith, bit-diff s t i, bit-le s i))
 
 pub one-is : (i j : ℕ) → bit (2 ^ i) j ≡ 1 → j ≡ i
 one-is i j h = ⊎-elim (λ w. w .0) (λ w. absurd (omega arith)) (one-cases i j)
@@ -92,3 +96,12 @@ module _ (p : ℕ → Bool) where
       go (inl e) (no q) ih = rw (e, setOf, join-one n) (or-right-in (2 ^ n) (setOf p n) i (ih (omega arith) h))
       go (inr e) (yes q) ih = absurd (true≢false (sym h ∙ ap p q ∙ e))
       go (inr e) (no q) ih = rw (e, setOf) (ih (omega arith) h)
+
+  -- one number more: it is put in where it passes
+  pub setOf-next : (n : ℕ) → p n ≡ true → setOf p (n + 1) ≡ bitOr (setOf p n) (2 ^ n)
+  unfolding setOf
+  setOf-next n e = rw (add-one n, e, setOf) (join-one n ∙ or-comm (2 ^ n) (setOf p n))
+
+  pub setOf-skip : (n : ℕ) → p n ≡ false → setOf p (n + 1) ≡ setOf p n
+  unfolding setOf
+  setOf-skip n e = rw (add-one n, e, setOf)

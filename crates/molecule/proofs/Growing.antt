@@ -1,17 +1,20 @@
--- Growing a set over a graph: `reach` is the least set that holds c and is closed. Whatever near is. Assumes nothing.
+-- Growing a set over a graph: `reach` is the least set that holds c and is closed, and `parts` takes such sets away one by one. Whatever near is. Assumes nothing.
 use mathlib.Core.Path.{_≡_, refl, sym, ap, _∙_}
-use mathlib.Core.Logic.{_⊎_, inl, inr, _≢_, ⊎-elim}
-use mathlib.Core.List.{[], _∷_}
-use Prim.Native.Nat.{ℕ, zero, suc, _≤_, _<_}
+use mathlib.Core.Logic.{_≢_, ⊎-elim}
+use mathlib.Core.Bool.{not, _&&_}
+use mathlib.Core.List.{List, [], _∷_}
+use Prim.Native.Nat.{ℕ, zero, suc, _^_, _≤_, _<_}
 use native.Mathlib.Omega.{arith}
 use native.Mathlib.Nat.{lt-of-not-le}
 use native.Mathlib.Decide.{ℕ-discrete}
-use lib.Bits.{bitAnd, bitOr, and-self}
-use Rattle.bitset.specs.Bits.{bit, Sub, diff, size, members, unions}
-use Rattle.bitset.proofs.Laws.{bit-le, bit-and, bit-diff, sub-or, sub-trans, sub-anti, or-cases, union-one, union-of, size-same, size-mono, size-zero, size-diff, size-empty}
-use Rattle.bitset.proofs.Members.{in-or-out, sub-of, sub-in, or-left-in, or-right-in, and-in, diff-in, not-empty}
+use lib.Bits.{bitAnd, bitOr, and-self, and-le-r}
+use lib.Dec.{eqb}
+use lib.ListN.{length}
+use Rattle.bitset.specs.Bits.{bit, Sub, diff, size, members, low, unions}
+use Rattle.bitset.proofs.Laws.{bit-le, bit-and, bit-diff, bit-one, sub-or, sub-trans, sub-anti, or-cases, union-one, union-of, size-same, size-mono, size-zero, size-diff, size-minus, size-one, one-sub, low-bit}
+use Rattle.bitset.proofs.Members.{diff-sub, in-or-out, sub-of, sub-in, or-right-in, and-in, diff-in, not-empty}
 use Rattle.bitset.proofs.Decide.{sets, v, and, less, or, sub}
-use Rattle.molecule.specs.Touch.{around, grow, reach, partsIn, parts}
+use Rattle.molecule.specs.Touch.{around, grow, reach, partsIn, parts, isPart}
 
 module _ (near : ℕ → ℕ) where
   -- no bond of s outside c is next to one of c
@@ -107,3 +110,99 @@ half-same near far s c e =
 
 pub reach-same : (near far : ℕ → ℕ) (s c : ℕ) → ((x : ℕ) → bit (bitOr c s) x ≡ 1 → near x ≡ far x) → reach near s c ≡ reach far s c
 reach-same near far s c e = sub-anti (reach near s c) (reach far s c) (half-same near far s c e) (half-same far near s c (λ x h. sym (e x h)))
+
+-- ---- parts
+
+-- a bond of s adds nothing to it
+one-more : (s b : ℕ) → bit s b ≡ 1 → Sub (bitOr (2 ^ b) s) s
+one-more s b h = sets (sub (v 0) (v 1) ∷ []) (sub (or (v 0) (v 1)) (v 1)) (2 ^ b ∷ s ∷ []) tt (one-sub s b h)
+
+module _ (near : ℕ → ℕ) where
+  -- from a bond of s: the bond itself, and bonds of s alone
+  pub reach-one : (s b : ℕ) → bit (reach near s (2 ^ b)) b ≡ 1
+  reach-one s b = sub-in (2 ^ b) (reach near s (2 ^ b)) (reach-has near s (2 ^ b)) b (bit-one b)
+
+  pub reach-sub : (s b : ℕ) → bit s b ≡ 1 → Sub (reach near s (2 ^ b)) s
+  reach-sub s b h = sub-trans (reach near s (2 ^ b)) (bitOr (2 ^ b) s) s (reach-within near s (2 ^ b)) (one-more s b h)
+
+  -- the part of the lowest bond, and what is left without it
+  abbrev pub lead : ℕ → ℕ
+  lead s = reach near s (2 ^ low s)
+
+  abbrev pub rest : ℕ → ℕ
+  rest s = diff s (lead s)
+
+  pub rest-word : (s : ℕ) → s < 2 ^ 64 → rest s < 2 ^ 64
+  rest-word s w = omega (arith, and-le-r (rest s) s, diff-sub s (lead s))
+
+  pub rest-less : (s : ℕ) → s ≢ 0 → s < 2 ^ 64 → size (rest s) < size s
+  rest-less s n w =
+      let one : size (2 ^ low s) ≤ size (lead s) = size-mono (2 ^ low s) (lead s) (reach-has near s (2 ^ low s)) in
+      omega (arith, size-minus s (lead s) (reach-sub s (low s) (low-bit 64 s (omega arith) w)), size-one (low s))
+
+  none-in : (f : ℕ) → partsIn near f 0 ≡ []
+  unfolding partsIn
+  none-in zero = refl
+  none-in (suc f) = refl
+
+  step-in : (f s : ℕ) → s ≢ 0 → partsIn near (suc f) s ≡ lead s ∷ partsIn near f (rest s)
+  unfolding partsIn
+  step-in f zero n = absurd (n refl)
+  step-in f (suc s) n = refl
+
+  -- as many parts as bonds are enough
+  enough : (f g s : ℕ) → size s ≤ f → size s ≤ g → s < 2 ^ 64 → partsIn near f s ≡ partsIn near g s
+  enough zero g s l m w = let e : s ≡ 0 = size-zero s (omega arith) in rw e (none-in zero ∙ sym (none-in g))
+  enough (suc f) zero s l m w = let e : s ≡ 0 = size-zero s (omega arith) in rw e (none-in (suc f) ∙ sym (none-in zero))
+  enough (suc f) (suc g) s l m w = go (ℕ-discrete s 0) (enough f g (rest s))
+    where
+      go : Dec (s ≡ 0) → (size (rest s) ≤ f → size (rest s) ≤ g → rest s < 2 ^ 64 → partsIn near f (rest s) ≡ partsIn near g (rest s)) → partsIn near (suc f) s ≡ partsIn near (suc g) s
+      go (yes e) ih = rw e (none-in (suc f) ∙ sym (none-in (suc g)))
+      go (no n) ih =
+          let r : size (rest s) < size s = rest-less s n w in
+          step-in f s n ∙ ap (λ (l : List ℕ). lead s ∷ l) (ih (omega arith) (omega arith) (rest-word s w)) ∙ sym (step-in g s n)
+
+  pub parts-none : parts near 0 ≡ []
+  unfolding parts
+  parts-none = none-in (size 0)
+
+  pub parts-step : (s : ℕ) → s ≢ 0 → s < 2 ^ 64 → parts near s ≡ reach near s (2 ^ low s) ∷ parts near (diff s (reach near s (2 ^ low s)))
+  unfolding parts
+  parts-step s n w =
+      enough (size s) (suc (size s)) s (omega arith) (omega arith) w ∙ step-in (size s) s n
+      ∙ ap (λ (l : List ℕ). lead s ∷ l) (enough (size s) (size (rest s)) (rest s) (omega (arith, rest-less s n w)) (omega arith) (rest-word s w))
+
+  -- what holds of the empty set, and of s where it holds of the rest of s, holds of every set of bonds below 64
+  pub parts-by : (P : ℕ → List ℕ → Type 0) → P 0 [] → ((s : ℕ) → s ≢ 0 → s < 2 ^ 64 → P (rest s) (parts near (rest s)) → P s (lead s ∷ parts near (rest s)))
+      → (s : ℕ) → s < 2 ^ 64 → P s (parts near s)
+  parts-by P base turn s = go (size s) s (omega arith)
+    where
+      go : (f s : ℕ) → size s ≤ f → s < 2 ^ 64 → P s (parts near s)
+      go zero s l w = let e : s ≡ 0 = size-zero s (omega arith) in rw (e, parts-none) base
+      go (suc f) s l w = or-step (ℕ-discrete s 0) (go f (rest s))
+        where
+          or-step : Dec (s ≡ 0) → (size (rest s) ≤ f → rest s < 2 ^ 64 → P (rest s) (parts near (rest s))) → P s (parts near s)
+          or-step (yes e) ih = rw (e, parts-none) base
+          or-step (no n) ih = rw (parts-step s n w) (turn s n w (ih (omega (arith, rest-less s n w)) (rest-word s w)))
+
+  pub parts-length : (s : ℕ) → s < 2 ^ 64 → length (parts near s) ≤ size s
+  parts-length = parts-by (λ s l. length l ≤ size s) (omega arith) (λ s n w ih. omega (arith, rest-less s n w))
+
+-- the parts depend on near at the bonds of s alone
+lead-same : (near far : ℕ → ℕ) (s : ℕ) → s ≢ 0 → s < 2 ^ 64 → ((x : ℕ) → bit s x ≡ 1 → near x ≡ far x) → lead near s ≡ lead far s
+lead-same near far s n w e = reach-same near far s (2 ^ low s) (λ x h. e x (sub-in (bitOr (2 ^ low s) s) s (one-more s (low s) (low-bit 64 s (omega arith) w)) x h))
+
+pub parts-same : (near far : ℕ → ℕ) (s : ℕ) → s < 2 ^ 64 → ((x : ℕ) → bit s x ≡ 1 → near x ≡ far x) → parts near s ≡ parts far s
+parts-same near far = parts-by near (λ s l. ((x : ℕ) → bit s x ≡ 1 → near x ≡ far x) → l ≡ parts far s)
+    (λ e. sym (parts-none far))
+    (λ s n w ih e.
+    let q : lead near s ≡ lead far s = lead-same near far s n w e in
+    ap (λ (l : List ℕ). lead near s ∷ l) (ih (λ x h. e x (sub-in (rest near s) s (diff-sub s (lead near s)) x h))) ∙ rw (q, parts-step far s n w))
+
+pub isPart-same : (near far : ℕ → ℕ) (s : ℕ) → s < 2 ^ 64 → ((x : ℕ) → bit s x ≡ 1 → near x ≡ far x) → isPart near s ≡ isPart far s
+unfolding isPart
+isPart-same near far s w e = go (ℕ-discrete s 0)
+  where
+    go : Dec (s ≡ 0) → isPart near s ≡ isPart far s
+    go (yes z) = rw z
+    go (no n) = ap (λ (c : ℕ). not (eqb s 0) && eqb c s) (lead-same near far s n w e)

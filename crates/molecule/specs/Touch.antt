@@ -65,6 +65,10 @@ module _ (r : Bytes) where
   unfoldable pub connected : ℕ → Bool
   connected s = isPart touching s
 
+  -- for each of 65 atom numbers the bonds at it
+  unfoldable pub bondsAtWords : List ℕ
+  bondsAtWords = listFrom bondsAt 0 65
+
   -- for each of 64 bond numbers the bonds that touch it, none where there is no such bond
   unfoldable pub touchingWords : List ℕ
   touchingWords = listFrom (λ i. elim (ltb i (bonds r)) [ true ↦ touching i | false ↦ 0 ]) 0 64
