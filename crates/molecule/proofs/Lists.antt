@@ -6,16 +6,16 @@ use native.Mathlib.Omega.{arith}
 use native.Mathlib.Numerals.{add-one}
 use lib.ListN.{replicate, getD, set, drop, length, length-append, length-drop}
 use lib.Seq.{drop-cons, set-at}
-use Rattle.molecule.specs.Lists.{listFrom}
+use Rattle.molecule.specs.Lists.{numbersFrom, listFrom}
 
 module _ {A : Type 0} (f : ℕ → A) where
   pub length-list : (k n : ℕ) → length (listFrom f k n) ≡ n
-  unfolding listFrom
+  unfolding numbersFrom
   length-list k zero = refl
   length-list k (suc n) = ap suc (length-list (suc k) n)
 
   pub list-at : (k n i : ℕ) (d : A) → i < n → getD (listFrom f k n) i d ≡ f (k + i)
-  unfolding listFrom
+  unfolding numbersFrom
   list-at k zero i d h = absurd (omega arith)
   list-at k (suc n) zero d h = ap f (omega arith)
   list-at k (suc n) (suc i) d h = list-at (suc k) n i d (omega arith) ∙ ap f (omega arith)

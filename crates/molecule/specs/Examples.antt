@@ -4,13 +4,13 @@ use mathlib.Core.List.{List, [], _∷_, _++_}
 use Prim.Native.Nat.{ℕ, zero, suc}
 use lib.ListN.{set}
 use Rattle.bitset.specs.Bits.{bit, diff, sizeIn, size, front, membersIn, membersFrom, setOf, unions}
-use Rattle.molecule.specs.Lists.{Bytes, firstFrom, listFrom}
+use Rattle.molecule.specs.Lists.{Bytes, firstFrom, numbersFrom}
 use Rattle.molecule.specs.Touch.{around, grow, reach, partsIn, parts, isPart, isEnd, bondsAt, touching, component, components, connected, bondsAtWords, touchingWords}
 use Rattle.molecule.specs.Check.{Answer, accepted, refused, row, rowAt, badLength, badCounts, badElement, badCode, badEnds, across, walk, reached, unreached, check}
 
 -- to unfold it is to unfold every definition: what a theorem by computing says
 unfoldable pub compute : Unit {0}
-unfolding bit diff sizeIn size front membersIn membersFrom setOf unions firstFrom listFrom around grow reach partsIn parts isPart isEnd bondsAt touching component components connected bondsAtWords touchingWords row rowAt badLength badCounts badElement badCode badEnds across walk reached unreached check
+unfolding bit diff sizeIn size front membersIn membersFrom setOf unions firstFrom numbersFrom around grow reach partsIn parts isPart isEnd bondsAt touching component components connected bondsAtWords touchingWords row rowAt badLength badCounts badElement badCode badEnds across walk reached unreached check
 compute = tt
 
 -- n times x

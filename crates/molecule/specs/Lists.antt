@@ -1,6 +1,6 @@
 -- Lists and scans that document 01 takes for granted.
 use mathlib.Core.Bool.{Bool, true, false}
-use mathlib.Core.List.{List, [], _∷_}
+use mathlib.Core.List.{List, [], _∷_, map}
 use Prim.Native.Nat.{ℕ, zero, suc}
 
 -- a byte string
@@ -16,7 +16,21 @@ firstFrom p k (suc f) = elim (p k) [ true ↦ k | false ↦ firstFrom p (suc k) 
 abbrev pub first : (ℕ → Bool) → ℕ → ℕ
 first p n = firstFrom p 0 n
 
+-- k, k + 1 and so on: n numbers
+unfoldable pub numbersFrom : ℕ → ℕ → List ℕ
+numbersFrom k zero = []
+numbersFrom k (suc n) = k ∷ numbersFrom (suc k) n
+
 -- f k, f (k + 1) and so on: n of them
-unfoldable pub listFrom : {A : Type 0} → (ℕ → A) → ℕ → ℕ → List A
-listFrom f k zero = []
-listFrom f k (suc n) = f k ∷ listFrom f (suc k) n
+abbrev pub listFrom : {A : Type 0} → (ℕ → A) → ℕ → ℕ → List A
+listFrom f k n = map f (numbersFrom k n)
+
+-- one of two, by a test
+abbrev pub pick : {A : Type 0} → Bool → A → A → A
+pick true a b = a
+pick false a b = b
+
+-- the elements that pass the test, in order
+abbrev pub filter : {A : Type 0} → (A → Bool) → List A → List A
+filter p [] = []
+filter p (x ∷ xs) = pick (p x) (x ∷ filter p xs) (filter p xs)
