@@ -1,7 +1,6 @@
 // The public calls as C functions: host/pazgelk.h declares them. A &[u8] is a pointer and then a length.
 ghost use mathlib.Core.Path.{_≡_};
 ghost use Rattle.molecule.specs.Check.{check, number, place};
-
 use molecule::Verdict;
 
 // Document 01's number, 0 where the record is accepted, and its place.
