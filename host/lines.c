@@ -8,7 +8,7 @@
 
 #include "pazgelk.h"
 
-enum { LINE = 4096 };
+enum { LINE = 4096, BUFFER = 1024 };
 
 static int digit(int c)
 {
@@ -38,6 +38,22 @@ static ssize_t bytes_of(const char *word, uint8_t *out)
     return (ssize_t)(n / 2);
 }
 
+/* A number of 1 to most digits to the base; 0 where the word is none. */
+static int number_of(const char *word, unsigned base, size_t most, uint64_t *value)
+{
+    size_t n = strlen(word);
+    if (n == 0 || n > most)
+        return 0;
+    *value = 0;
+    for (size_t i = 0; i < n; i++) {
+        int d = digit(word[i]);
+        if (d < 0 || (unsigned)d >= base)
+            return 0;
+        *value = *value * base + (unsigned)d;
+    }
+    return 1;
+}
+
 /* Takes the line apart at its spaces; the number of words, or -1 where there are more than most. */
 static int words_of(char *line, char **words, int most)
 {
@@ -50,23 +66,63 @@ static int words_of(char *line, char **words, int most)
     return n;
 }
 
+static void put_refused(struct pazgelk_reply reply)
+{
+    printf("refused %u %llu\n", reply.number, (unsigned long long)reply.place);
+}
+
+/* check HEX */
+static int answer_check(char **words)
+{
+    uint8_t record[LINE / 2];
+    ssize_t length = bytes_of(words[1], record);
+    if (length < 0)
+        return 0;
+    struct pazgelk_reply reply = assembly_check(record, (size_t)length);
+    if (reply.number == 0)
+        puts("accepted");
+    else
+        put_refused(reply);
+    return 1;
+}
+
+/* label HEX SETHEX BUFLEN: the buffer is filled with a pattern, and what should be untouched is looked at afterwards. */
+static int answer_label(char **words)
+{
+    uint8_t record[LINE / 2], buffer[BUFFER];
+    uint64_t set, room;
+    ssize_t length = bytes_of(words[1], record);
+    if (length < 0 || !number_of(words[2], 16, 16, &set) || !number_of(words[3], 10, 19, &room) || room > BUFFER)
+        return 0;
+    for (size_t i = 0; i < BUFFER; i++)
+        buffer[i] = (uint8_t)(i * 37 + 11);
+    struct pazgelk_reply reply = assembly_label(record, (size_t)length, set, buffer, (size_t)room);
+    size_t n = reply.number == 0 ? (size_t)reply.place : 0;
+    for (size_t i = n; i < BUFFER; i++)
+        if (buffer[i] != (uint8_t)(i * 37 + 11)) {
+            printf("touched byte %zu\n", i);
+            return 1;
+        }
+    if (reply.number != 0) {
+        put_refused(reply);
+        return 1;
+    }
+    fputs("label ", stdout);
+    for (size_t i = 0; i < n; i++)
+        printf("%02x", buffer[i]);
+    putchar('\n');
+    return 1;
+}
+
 /* Answers a line; 0 where it cannot be read. */
 static int answer(char *line)
 {
-    static uint8_t record[LINE / 2];
-    char *words[2];
-    int n = words_of(line, words, 2);
-    if (n == 2 && strcmp(words[0], "check") == 0) {
-        ssize_t length = bytes_of(words[1], record);
-        if (length < 0)
-            return 0;
-        struct pazgelk_reply reply = assembly_check(record, (size_t)length);
-        if (reply.number == 0)
-            puts("accepted");
-        else
-            printf("refused %u %llu\n", reply.number, (unsigned long long)reply.place);
-        return 1;
-    }
+    char *words[4];
+    int n = words_of(line, words, 4);
+    if (n == 2 && strcmp(words[0], "check") == 0)
+        return answer_check(words);
+    if (n == 4 && strcmp(words[0], "label") == 0)
+        return answer_label(words);
     return 0;
 }
 

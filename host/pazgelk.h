@@ -1,18 +1,23 @@
 /* Assembly scores of ring-free molecules: the calls that a C host links from libcapi.a (x86-64 Linux).
- * Records, numbers and places are those of docs/ANSWERS.md. No call keeps a pointer or allocates. */
+ * Records, numbers and places are those of docs/ANSWERS.md. No call keeps a pointer or allocates. A pointer is never null, also where
+ * its length is 0. */
 #ifndef PAZGELK_H
 #define PAZGELK_H
 
 #include <stddef.h>
 #include <stdint.h>
 
-/* number: 0 where the record is accepted, else the row that turns it back; place: that row's place. */
+/* number: 0 where there is no refusal, else the row; place: that row's place, or for a label its length. */
 struct pazgelk_reply {
     uint32_t number;
     uint64_t place;
 };
 
-/* Whether the bytes are a record that is answered: rows 1 to 6. record may be any non-null pointer where length is 0. */
+/* Whether the bytes are a record that is answered: rows 1 to 6. */
 struct pazgelk_reply assembly_check(const uint8_t *record, size_t length);
+
+/* The label of a set of bonds of the record (bit i is bond i): rows 1 to 6, 13 and 14. The buffer needs 389 bytes; the label goes to its
+ * front, and what stands after the label is untouched. On a refusal the buffer is untouched. */
+struct pazgelk_reply assembly_label(const uint8_t *record, size_t length, uint64_t set, uint8_t *buffer, size_t room);
 
 #endif

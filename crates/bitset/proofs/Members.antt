@@ -2,17 +2,18 @@
 use mathlib.Core.Path.{_≡_, refl, sym, ap, _∙_}
 use mathlib.Core.Logic.{_⊎_, inl, inr, _≢_, ⊎-elim}
 use mathlib.Core.Bool.{Bool, true, false, true≢false}
+use mathlib.Core.List.{List·Memᴰ, Memᴰ·cast}
 use Prim.Native.Nat.{ℕ, zero, suc, _+_, _-_, _^_, _<_}
 use native.Mathlib.Omega.{arith}
-use native.Mathlib.Nat.{one-mul}
+use native.Mathlib.Nat.{one-mul, sub-zero, zero-add}
 use native.Mathlib.Numerals.{add-one}
 use native.Mathlib.Decide.{ℕ-discrete}
 use lib.Pow.{pow-pos}
 use lib.Bits.{bitAnd, bitOr, or-shifted, or-comm}
 use lib.Count.{trailingZeros}
-use Rattle.bitset.specs.Bits.{bit, Sub, Disjoint, diff, setOf}
+use Rattle.bitset.specs.Bits.{bit, Sub, Disjoint, diff, members, setOf}
 use Rattle.bitset.proofs.Bools.{two}
-use Rattle.bitset.proofs.Laws.{lt-pow, bit-le, bit-and, bit-or, bit-diff, bit-empty, bit-one, bit-other, same, sub-bit, or-cases, one-cases, low-bit}
+use Rattle.bitset.proofs.Laws.{lt-pow, bit-le, bit-and, bit-or, bit-diff, bit-empty, bit-one, bit-other, same, sub-bit, or-cases, one-cases, low-bit, mem-bit, bit-mem}
 
 -- a number is in a set or it is not
 pub in-or-out : (s i : ℕ) → (bit s i ≡ 1) ⊎ (bit s i ≡ 0)
@@ -59,6 +60,13 @@ apart-of s t h = same (λ i. ⊎-elim (λ (e : bit s i ≡ 1). ⊎-elim (λ (f :
 
 pub apart-out : (s t i : ℕ) → Disjoint s t → bit s i ≡ 1 → bit t i ≡ 1 → ⊥
 apart-out s t i d h k = omega (arith, bit-and s t i, ap (λ (x : ℕ). bit x i) d, bit-empty i)
+
+-- the same of the list of the members
+pub members-bit : (s i : ℕ) → List·Memᴰ i (members s) → bit s i ≡ 1
+members-bit s i m = rw sub-zero at (mem-bit s 0 i m .1)
+
+pub bit-members : (s i : ℕ) → bit s i ≡ 1 → List·Memᴰ i (members s)
+bit-members s i h = Memᴰ·cast (sym (zero-add i)) (bit-mem i 0 s h)
 
 -- ---- the set of the numbers that pass a test
 

@@ -1,13 +1,37 @@
 // The public calls as C functions: host/pazgelk.h declares them. A &[u8] is a pointer and then a length.
 ghost use mathlib.Core.Path.{_≡_};
 ghost use Rattle.molecule.specs.Check.{check, number, place};
+ghost use Rattle.molecule.specs.Verdict.{numberOf, placeOf};
+ghost use Rattle.canonize.specs.Answer.{number as labelNumber, value as labelValue, labelAnswer, bufferAfter};
+use canonize::Labelled;
+use molecule::Fault;
 use molecule::Verdict;
 
-// Document 01's number, 0 where the record is accepted, and its place.
+// Document 01's number, 0 where there is no refusal, and its place, or for a label its length.
 #[repr(C)]
 pub struct Reply {
     pub number: u32,
     pub place: u64,
+}
+
+// No refusal, with a value.
+fn answered(value: u64) -> Reply
+    ensures { λ r. ⌜ (r .number ≡ 0) × (r .place ≡ value) ⌝ }
+{
+    Reply {
+        number: 0,
+        place: value,
+    }
+}
+
+// A record that is turned back.
+fn turned_back(fault: Fault) -> Reply
+    ensures { λ r. ⌜ (r .number ≡ numberOf fault) × (r .place ≡ placeOf fault) ⌝ }
+{
+    Reply {
+        number: molecule::number(fault),
+        place: molecule::place(fault),
+    }
 }
 
 // check.
@@ -16,13 +40,27 @@ pub extern "C" fn assembly_check(bytes: &[u8]) -> Reply
     ensures { λ r. ⌜ (r .number ≡ number (check (now (bytes .entry)))) × (r .place ≡ place (check (now (bytes .entry)))) ⌝ }
 {
     match molecule::check(bytes) {
-        Verdict::Accepted => Reply {
-            number: 0,
+        Verdict::Accepted => answered(0),
+        Verdict::Refused(fault) => turned_back(fault),
+    }
+}
+
+// label.
+#[no_mangle]
+pub extern "C" fn assembly_label(bytes: &[u8], set: u64, out: &mut [u8]) -> Reply
+    ensures answer { λ r. ⌜ (r .number ≡ labelNumber (labelAnswer (now (bytes .entry)) set (now (out .entry)))) × (r .place ≡ labelValue (labelAnswer (now (bytes .entry)) set (now (out .entry)))) ⌝ }
+    ensures buffer { λ r. ⌜ now (out .exit) ≡ bufferAfter (now (bytes .entry)) set (now (out .entry)) ⌝ }
+{
+    match canonize::label(bytes, set, out) {
+        Labelled::Length(n) => answered(n as u64),
+        Labelled::Record(fault) => turned_back(fault),
+        Labelled::Set => Reply {
+            number: 13,
             place: 0,
         },
-        Verdict::Refused(fault) => Reply {
-            number: molecule::number(fault),
-            place: molecule::place(fault),
+        Labelled::Buffer => Reply {
+            number: 14,
+            place: 0,
         },
     }
 }

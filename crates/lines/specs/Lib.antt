@@ -1,2 +1,4 @@
 pub mod Hex
+pub mod Numbers
+pub mod Inside
 pub mod Words

@@ -1,4 +1,5 @@
 // Hexadecimal digits, two to a byte.
+ghost use Prim.Native.Nat.{_<_};
 ghost use mathlib.Core.Path.{_≡_};
 ghost use Rattle.lines.specs.Hex.{digitOf, Decoded, DecodedRecord};
 
@@ -18,6 +19,17 @@ pub fn digit(b: u8) -> u8
         b'A'..=b'F' => b - b'A' + 10,
         _ => 16,
     }
+}
+
+// The digit, in lower case, of a number below 16.
+pub fn digit_of(x: u8) -> u8
+    requires { ⌜ x < 16 ⌝ }
+    ensures { λ r. ⌜ digitOf r ≡ x ⌝ }
+{
+    if x < 10 {
+        return b'0' + x;
+    }
+    b'a' + (x - 10)
 }
 
 // Puts the bytes that a word's digits spell at the start of bytes.

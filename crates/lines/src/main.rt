@@ -1,8 +1,11 @@
 // Reads a question a line, and answers each on a line.
+use canonize::compare;
 use libc::STDIN_FILENO;
 
 mod check_line;
 mod hex;
+mod label_line;
+mod numbers;
 mod output;
 mod words;
 
@@ -16,6 +19,7 @@ pub enum Answer {
 // The commands, by the first word.
 enum Command {
     Check,
+    Label,
     Unknown,
 }
 
@@ -29,8 +33,11 @@ struct State {
 
 // The command that a first word names.
 fn command_of(name: &[u8]) -> Command {
-    if words::same(name, b"check") {
+    if compare::equal(name, b"check") {
         return Command::Check;
+    }
+    if compare::equal(name, b"label") {
+        return Command::Label;
     }
     Command::Unknown
 }
@@ -40,6 +47,7 @@ fn answer_line(line: &[u8], out: &mut [u8; 4096], at: usize) -> Answer {
     let word = words::word_at(line, 0);
     match command_of(words::text(line, word)) {
         Command::Check => check_line::answer(line, word, out, at),
+        Command::Label => label_line::answer(line, word, out, at),
         Command::Unknown => Answer::Unreadable,
     }
 }

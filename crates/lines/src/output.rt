@@ -1,5 +1,6 @@
 // The answers on their way out: they are collected, and written when the buffer is full.
 ghost use Prim.Native.Nat.{_≤_};
+use crate::hex;
 use libc::STDOUT_FILENO;
 
 // Writes the first at bytes; at 4096 or more the whole buffer.
@@ -32,6 +33,19 @@ pub fn put_text(out: &mut [u8; 4096], at: usize, text: &[u8]) -> usize {
     let mut i = 0;
     while i < text.len() {
         end = put(out, end, text[i]);
+        i += 1;
+    }
+    end
+}
+
+// Puts bytes in hexadecimal, two digits to each.
+pub fn put_hex(out: &mut [u8; 4096], at: usize, bytes: &[u8]) -> usize {
+    let mut end = at;
+    let mut i = 0;
+    while i < bytes.len() {
+        let b = bytes[i];
+        let high = put(out, end, hex::digit_of(b / 16));
+        end = put(out, high, hex::digit_of(b % 16));
         i += 1;
     }
     end

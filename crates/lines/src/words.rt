@@ -1,7 +1,6 @@
 // Words of a line: what stands between single spaces.
 ghost use Prim.Native.Nat.{_+_, _-_};
 ghost use mathlib.Core.Path.{_≡_};
-ghost use mathlib.Core.Bool.{true};
 ghost use lib.Dec.{leb};
 ghost use lib.ListN.{length, take, drop};
 ghost use Rattle.lines.specs.Words.{Within, WordAt};
@@ -61,21 +60,4 @@ pub fn text(line: &[u8], word: Word) -> &[u8]
     let start = word.start;
     let end = word.end;
     &line[start..end]
-}
-
-// Whether two words have the same bytes.
-pub fn same(a: &[u8], b: &[u8]) -> bool
-    ensures { λ r. ⌜ (r ≡ true → now (a .entry) ≡ now (b .entry)) × (now (a .entry) ≡ now (b .entry) → r ≡ true) ⌝ }
-{
-    if a.len() != b.len() {
-        return false;
-    }
-    let mut i = 0;
-    while i < a.len() {
-        if a[i] != b[i] {
-            return false;
-        }
-        i += 1;
-    }
-    true
 }

@@ -5,7 +5,7 @@ ghost use mathlib.Core.List.{_++_};
 ghost use lib.ListN.{length, getD, drop};
 ghost use Rattle.bitset.specs.Bits.{size};
 ghost use Rattle.molecule.specs.Record.{bonds};
-ghost use Rattle.molecule.specs.Touch.{reach, parts, isPart, touching, bondsAtWords, touchingWords};
+ghost use Rattle.molecule.specs.Touch.{around, reach, parts, isPart, touching, bondsAtWords, touchingWords};
 ghost use Rattle.molecule.specs.Tree.{Formed};
 use crate::fields;
 
@@ -60,6 +60,20 @@ pub fn touching_words(bytes: &[u8]) -> [u64; 64]
 {
     let at = bonds_at(bytes);
     touching_from(bytes, &at)
+}
+
+// The bonds outside s that are next to a bond of s.
+pub fn around(touch: &[u64; 64], s: u64) -> u64
+    ensures { λ r. ⌜ r ≡ around (λ (i : ℕ). getD (now (touch .entry)) i 0) s ⌝ }
+{
+    let mut rest = s;
+    let mut near = 0;
+    while rest != 0 {
+        let i = bitset::lowest(rest) as usize;
+        near = bitset::union(near, touch[i]);
+        rest = bitset::without_lowest(rest);
+    }
+    bitset::difference(near, s)
 }
 
 // c with the bonds of s that are reached from it, by steps to a bond next to the one before. touch[i] has the bonds next to bond i.

@@ -109,7 +109,7 @@ loop-again c =
       simp length-set (l .inv .3),
       below-more _ _ (l .inv .4) (omega (arith, high .ensures)),
       below-more _ _ (l .inv .5) (omega (arith, low .ensures)),
-      values-more (c .before .before .before .before .before .before .before .before .before .before .before .before .args .word .now) (l .bytes) (l .i) (16 * high .result + low .result) (omega arith) (l .inv .6)
+      values-more (c .before .before .before .before .before .before .before .before .before .before .before .before .args .word .now) (l .bytes) (l .i) _ (omega arith) (l .inv .6)
           (omega (arith, high .ensures, low .ensures)),
     )
 

@@ -3,7 +3,6 @@ use Prim.Native.Nat.{ℕ, _≤_, _<_, _-_}
 use mathlib.Core.Path.{_≡_}
 use borrow.Author.Count.{below-more}
 use borrow.Author.Needs.{needs}
-use native.Mathlib.Omega.{arith}
 use lib.ListN.{length, getD}
 use Rattle.lines.proofs.words.word_at.Statement.{statement}
 use Rattle.lines.proofs.words.word_at.Tie as tie

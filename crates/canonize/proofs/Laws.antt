@@ -1,0 +1,96 @@
+-- The laws of labels that other crates cite: lengths, isomorphism, parts carried along, and the order of byte strings. Assumes nothing.
+use mathlib.Core.Path.{_≡_, sym, _∙_}
+use mathlib.Core.Logic.{_⊎_, inl, inr, ⊎-elim}
+use mathlib.Core.Bool.{true}
+use mathlib.Core.List.{[], _∷_}
+use Prim.Native.Nat.{ℕ, _+_, _*_, _^_, _≤_}
+use native.Mathlib.Omega.{arith}
+use lib.Bits.{bitOr}
+use lib.ListN.{length}
+use Rattle.bitset.specs.Bits.{bit, Sub, size}
+use Rattle.bitset.proofs.Laws.{member-lt, size-le, one-sub}
+use Rattle.bitset.proofs.Decide.{sets, v, or, sub}
+use Rattle.molecule.specs.Lists.{Bytes}
+use Rattle.molecule.specs.Record.{bonds}
+use Rattle.molecule.specs.Check.{accepted, check}
+use Rattle.molecule.specs.Connected.{Touch, Own, Connected}
+use Rattle.molecule.proofs.Accepted.{accepted-formed}
+use Rattle.molecule.proofs.Components.{own-sub, pair-connected}
+use Rattle.canonize.specs.Strings.{lexLe}
+use Rattle.canonize.specs.Label.{fragment, label}
+use Rattle.canonize.specs.Isomorphism.{Isomorphism}
+use Rattle.canonize.proofs.Sorting.{lex-refl, lex-trans, lex-antisym, lex-total, lex→lexLe, lexle→lex}
+use Rattle.canonize.proofs.OnStrings.{label-document}
+use Rattle.canonize.proofs.Facts.{label-length as tree-length, label-size as tree-size}
+use Rattle.canonize.proofs.OfRecords.{label-fits as tree-fits}
+use Rattle.canonize.proofs.Fragments.{fragment-bonds, fragment-clean}
+use Rattle.canonize.proofs.Carried.{Carried, image, image-carried, pair-carried, touch-goes, carried-sub, carried-iso, carried-connected}
+pub use Rattle.canonize.proofs.Isomorphic.{label-iff}
+
+-- ---- lengths
+
+module _ (r : Bytes) (s : ℕ) (a : check r ≡ accepted) (o : Own r s) (k : Connected r s) where
+  pub label-length : (length (label r s) ≡ 6 * size s + 3) ⊎ (length (label r s) ≡ 6 * size s + 5)
+  unfolding label
+  label-length = rw (← (label-document (fragment r s)), ← (fragment-bonds r s)) (tree-length (fragment r s) (fragment-clean r s a o k))
+
+  pub label-fits : length (label r s) ≤ 389
+  unfolding label
+  label-fits = tree-fits (fragment r s) (fragment-clean r s a o k) (omega (arith, fragment-bonds r s, size-le (bonds r) s o, accepted-formed r a .sized .few))
+
+-- ---- two sets with one label
+
+module _ (r q : Bytes) (s t : ℕ) (a : check r ≡ accepted) (b : check q ≡ accepted) (o : Own r s) (p : Own q t) (k : Connected r s) (l : Connected q t) (e : label r s ≡ label q t) where
+  pub label-size : size s ≡ size t
+  unfolding label
+  label-size =
+      sym (fragment-bonds r s)
+      ∙ tree-size (fragment r s) (fragment q t) (fragment-clean r s a o k) (fragment-clean q t b p l) (label-document (fragment r s) ∙ e ∙ sym (label-document (fragment q t)))
+      ∙ fragment-bonds q t
+
+-- ---- parts of two sets with one label
+
+module _ (r q : Bytes) (h k : ℕ) (a : check r ≡ accepted) (b : check q ≡ accepted) (o : Own r h) (p : Own q k) (c : Connected r h) (d : Connected q k) (e : label r h ≡ label q k) where
+  iso : Isomorphism r h q k
+  iso = label-iff r q h k a b o p c d .0 e
+
+  -- a connected part and its image have one label
+  image-label : (x y : ℕ) → Sub x h → Carried (iso .bond) x y → Connected r x → label r x ≡ label q y
+  image-label x y m g u =
+      label-iff r q x y a b (own-sub r x h m o) (own-sub q y k (carried-sub r q h k p iso x y m g) p) u (carried-connected r q h k p iso x y m g u)
+      .1 (carried-iso r q h k p iso x y m g)
+
+  -- every connected part of the one has its like in the other
+  pub parts-transport : (x : ℕ) → Connected r x → Sub x h → (y : ℕ) × Connected q y × Own q y × Sub y k × (label r x ≡ label q y) × (size x ≡ size y)
+  parts-transport x u m =
+      let y : ℕ = image (iso .bond) x in
+      let g = image-carried (iso .bond) x in
+      let n : Sub y k = carried-sub r q h k p iso x y m g in
+      let z : Connected q y = carried-connected r q h k p iso x y m g u in
+      let w : Own q y = own-sub q y k n p in
+      let l : label r x ≡ label q y = image-label x y m g u in
+      (y, z, w, n, l, label-size r q x y a b (own-sub r x h m o) w u z l)
+
+  -- so have two bonds that touch
+  pub pair-transport : (i j : ℕ) → bit h i ≡ 1 → bit h j ≡ 1 → Touch r i j
+      → (m : ℕ) × (n : ℕ) × (bit k m ≡ 1) × (bit k n ≡ 1) × Touch q m n × (label r (bitOr (2 ^ i) (2 ^ j)) ≡ label q (bitOr (2 ^ m) (2 ^ n)))
+  pair-transport i j hi hj t =
+      let m : ℕ = iso .bond i in
+      let n : ℕ = iso .bond j in
+      let w : Sub (bitOr (2 ^ i) (2 ^ j)) h = sets (sub (v 0) (v 2) ∷ sub (v 1) (v 2) ∷ []) (sub (or (v 0) (v 1)) (v 2)) (2 ^ i ∷ 2 ^ j ∷ h ∷ []) tt (one-sub h i hi) (one-sub h j hj) in
+      let l : label r (bitOr (2 ^ i) (2 ^ j)) ≡ label q (bitOr (2 ^ m) (2 ^ n)) = image-label (bitOr (2 ^ i) (2 ^ j)) (bitOr (2 ^ m) (2 ^ n)) w (pair-carried r q h k p iso i j) (pair-connected r i j (member-lt (bonds r) h i o hi) t) in
+      (m, n, iso .bond-into i hi, iso .bond-into j hj, touch-goes r q h k p iso i j hi hj t, l)
+
+-- ---- the order of byte strings is total
+
+pub le-refl : (x : Bytes) → lexLe x x ≡ true
+le-refl x = lex→lexLe x x (lex-refl x)
+
+pub le-trans : (x y z : Bytes) → lexLe x y ≡ true → lexLe y z ≡ true → lexLe x z ≡ true
+le-trans x y z p q = lex→lexLe x z (lex-trans x y z (lexle→lex x y p) (lexle→lex y z q))
+
+pub le-antisym : (x y : Bytes) → lexLe x y ≡ true → lexLe y x ≡ true → x ≡ y
+le-antisym x y p q = lex-antisym x y (lexle→lex x y p) (lexle→lex y x q)
+
+pub le-total : (x y : Bytes) → (lexLe x y ≡ true) ⊎ (lexLe y x ≡ true)
+le-total x y = ⊎-elim (λ l. inl (lex→lexLe x y l)) (λ l. inr (lex→lexLe y x l)) (lex-total x y)
