@@ -102,6 +102,16 @@ module _ (near : ℕ → ℕ) where
   pub reach-within : (s c : ℕ) → Sub (reach near s c) (bitOr c s)
   reach-within s c = reach-least s c (bitOr c s) (sub-or c s) (λ x y h k t. or-right-in c s y k)
 
+-- what is around c depends on near at the bonds of c alone
+around-half : (near far : ℕ → ℕ) (c : ℕ) → ((x : ℕ) → bit c x ≡ 1 → near x ≡ far x) → Sub (around near c) (around far c)
+around-half near far c e = sub-of (around near c) (around far c)
+    (λ y h.
+    let w = around-in near c y h in
+    around-has far c (w .0) y (w .1) (ap (λ (z : ℕ). bit z y) (sym (e (w .0) (w .1))) ∙ w .2) (w .3))
+
+pub around-same : (near far : ℕ → ℕ) (c : ℕ) → ((x : ℕ) → bit c x ≡ 1 → near x ≡ far x) → around near c ≡ around far c
+around-same near far c e = sub-anti (around near c) (around far c) (around-half near far c e) (around-half far near c (λ x h. sym (e x h)))
+
 -- what is reached depends on near at the bonds of c and s alone
 half-same : (near far : ℕ → ℕ) (s c : ℕ) → ((x : ℕ) → bit (bitOr c s) x ≡ 1 → near x ≡ far x) → Sub (reach near s c) (reach far s c)
 half-same near far s c e =

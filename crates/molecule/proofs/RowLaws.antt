@@ -13,6 +13,14 @@ use Rattle.molecule.specs.Tree.{Sized, Formed}
 use Rattle.molecule.proofs.Scans.{first-none}
 use Rattle.molecule.proofs.Accepted.{ends-right}
 
+pub row-hit : (k p : ℕ) (fault : Bool) (next : Answer) → fault ≡ true → row k p fault next ≡ refused k p
+unfolding row
+row-hit k p fault next e = rw e
+
+pub row-pass : (k p : ℕ) (fault : Bool) (next : Answer) → fault ≡ false → row k p fault next ≡ next
+unfolding row
+row-pass k p fault next e = rw e
+
 pub rowAt-hit : (k : ℕ) (fault : ℕ → Bool) (n : ℕ) (next : Answer) → first fault n < n → rowAt k fault n next ≡ refused k (first fault n)
 unfolding rowAt row
 rowAt-hit k fault n next h = rw (lt-ltb (first fault n) n h)

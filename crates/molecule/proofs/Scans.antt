@@ -1,11 +1,11 @@
 -- Scans: what the first number that passes a test is, and how a loop comes to it. Whatever the test is. Assumes nothing.
 use mathlib.Core.Path.{_≡_, refl, sym, ap, ap₂, _∙_, subst}
 use mathlib.Core.Logic.{_⊎_, inl, inr}
-use mathlib.Core.Bool.{Bool, true, false}
+use mathlib.Core.Bool.{Bool, true, false, true≢false}
 use Prim.Native.Nat.{ℕ, zero, suc, _+_, _-_, _≤_, _<_}
 use native.Mathlib.Nat.{sub-self, sub-zero, zero-add}
 use native.Mathlib.Omega.{arith}
-use native.Mathlib.Decide.{ℕ-discrete}
+use native.Mathlib.Decide.{decLt, ℕ-discrete}
 use Rattle.bitset.proofs.Bools.{two}
 use Rattle.molecule.specs.Lists.{firstFrom, first}
 
@@ -84,6 +84,21 @@ module _ (p : ℕ → Bool) where
 
   pub first-none : (n i : ℕ) → n ≤ first p n → i < n → p i ≡ false
   first-none n i e l = first-before n i (omega arith)
+
+  pub first-is : (n k : ℕ) → k < n → p k ≡ true → ((i : ℕ) → i < k → p i ≡ false) → first p n ≡ k
+  first-is n k l e h = go (decLt k (first p n)) (decLt (first p n) k)
+    where
+      go : Dec (k < first p n) → Dec (first p n < k) → first p n ≡ k
+      go (yes a) b = absurd (true≢false (sym e ∙ first-before n k a))
+      go (no a) (yes b) = absurd (true≢false (sym (first-hit n (omega arith)) ∙ h (first p n) b))
+      go (no a) (no b) = omega arith
+
+  pub first-past : (n : ℕ) → ((i : ℕ) → i < n → p i ≡ false) → n ≤ first p n
+  first-past n h = go (decLt (first p n) n)
+    where
+      go : Dec (first p n < n) → n ≤ first p n
+      go (yes a) = absurd (true≢false (sym (first-hit n a) ∙ h (first p n) a))
+      go (no a) = omega arith
 
 -- tests that agree below n find the same
 from-cong : (p q : ℕ → Bool) (k f : ℕ) → ((i : ℕ) → k ≤ i → i < k + f → p i ≡ q i) → firstFrom p k f ≡ firstFrom q k f

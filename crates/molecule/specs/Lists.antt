@@ -34,3 +34,23 @@ pick false a b = b
 abbrev pub filter : {A : Type 0} → (A → Bool) → List A → List A
 filter p [] = []
 filter p (x ∷ xs) = pick (p x) (x ∷ filter p xs) (filter p xs)
+
+-- some element passes the test
+abbrev pub any : {A : Type 0} → (A → Bool) → List A → Bool
+any p [] = false
+any p (x ∷ xs) = pick (p x) true (any p xs)
+
+-- f over a list, from the first element on
+abbrev pub fold : {A B : Type 0} → (B → A → B) → B → List A → B
+fold f b [] = b
+fold f b (x ∷ xs) = fold f (f b x) xs
+
+-- put into a list that le sorts, before the first element that x is not after
+unfoldable pub insertBy : {A : Type 0} → (A → A → Bool) → A → List A → List A
+insertBy le x [] = x ∷ []
+insertBy le x (y ∷ ys) = pick (le x y) (x ∷ y ∷ ys) (y ∷ insertBy le x ys)
+
+-- sorted by le: elements that are equal by it keep their order
+unfoldable pub sortBy : {A : Type 0} → (A → A → Bool) → List A → List A
+sortBy le [] = []
+sortBy le (x ∷ xs) = insertBy le x (sortBy le xs)

@@ -1,0 +1,68 @@
+-- Worked match tables and rows 9 and 10, by computing.
+use mathlib.Core.Path.{_≡_, refl}
+use mathlib.Core.List.{List, [], _∷_, _++_}
+use Prim.Native.Nat.{ℕ, zero, suc}
+use lib.ListN.{set}
+use Rattle.molecule.specs.Lists.{Bytes, insertBy, sortBy}
+use Rattle.molecule.specs.Check.{Answer, accepted, refused}
+use Rattle.molecule.specs.Examples.{compute as molecules, times, chainEnds, chain}
+use Rattle.canonize.specs.Strings.{same}
+use Rattle.canonize.specs.Examples.{compute as labels}
+use Rattle.matches.specs.Table.{Table, Pair, note, numberOf, meet, pairUp, place, notBelow, extended, candidates, groups, extend, sizes, singles, matchTable, pairsOf, pairs}
+use Rattle.matches.specs.Rows.{overflows, tooMany, tableAnswer}
+
+-- to unfold it is to unfold every definition
+unfoldable pub compute : Unit {0}
+unfolding molecules labels times chainEnds chain insertBy sortBy same note numberOf meet pairUp place notBelow extended candidates groups extend sizes singles matchTable pairsOf overflows tooMany tableAnswer
+compute = tt
+
+-- the ends of bonds i, i + 1 and so on of a star: bond i joins atoms 0 and i + 1
+unfoldable pub starEnds : ℕ → ℕ → Bytes
+starEnds i zero = []
+starEnds i (suc n) = 0 ∷ suc i ∷ starEnds (suc i) n
+
+-- the star of n single bonds, between atoms of these elements
+unfoldable pub star : Bytes → ℕ → Bytes
+star elements n = (suc n ∷ n ∷ []) ++ elements ++ starEnds 0 n ++ times n 1
+
+-- a match of these two fragments
+abbrev pub both : ℕ → ℕ → Pair
+both x y = record { h1 = x; h2 = y }
+
+-- tables: a member becomes a node when first matched, so that in the chain of 5 the nodes are, after the bonds, 3, 12, 24 and 6; an oxygen at the end leaves no match
+pub record Tables : Type 0 where
+  pub chain-4 : pairs (chain 4) ≡ both 12 3 ∷ []
+  pub chain-5-nodes : matchTable (chain 5) .nodes ≡ 1 ∷ 2 ∷ 4 ∷ 8 ∷ 16 ∷ 3 ∷ 12 ∷ 24 ∷ 6 ∷ []
+  pub chain-5 : pairs (chain 5) ≡ both 6 24 ∷ both 24 3 ∷ both 12 3 ∷ []
+  pub star-4 : pairs (star (times 5 6) 4) ≡ both 6 9 ∷ both 10 5 ∷ both 12 3 ∷ []
+  pub oxygen : pairs (set (chain 4) 6 8) ≡ []
+
+pub tables : Tables
+unfolding compute starEnds star
+tables = record { chain-4 = refl; chain-5-nodes = refl; chain-5 = refl; star-4 = refl; oxygen = refl }
+
+-- rows 9 and 10: the words of parts, then those of pairs
+pub record Rows : Type 0 where
+  pub parts-95 : tableAnswer (matchTable (chain 4)) 95 4096 ≡ refused 9 2
+  pub parts-96 : tableAnswer (matchTable (chain 4)) 96 4096 ≡ accepted
+  pub pairs-3 : tableAnswer (matchTable (chain 4)) 4096 3 ≡ refused 10 1
+  pub pairs-4 : tableAnswer (matchTable (chain 4)) 4096 4 ≡ accepted
+  pub bonds-63 : tableAnswer (matchTable (chain 4)) 63 4096 ≡ refused 9 1
+  pub unlike-95 : tableAnswer (matchTable (star (6 ∷ 1 ∷ 2 ∷ 3 ∷ 7 ∷ []) 4)) 95 4096 ≡ refused 9 2
+  pub unlike-96 : tableAnswer (matchTable (star (6 ∷ 1 ∷ 2 ∷ 3 ∷ 7 ∷ []) 4)) 96 4096 ≡ accepted
+  pub star-336 : tableAnswer (matchTable (star (times 7 6) 6)) 336 0 ≡ refused 9 3
+  pub star-656 : tableAnswer (matchTable (star (times 7 6) 6)) 656 0 ≡ refused 10 55
+
+pub rows : Rows
+unfolding compute starEnds star
+rows = record {
+  parts-95 = refl;
+  parts-96 = refl;
+  pairs-3 = refl;
+  pairs-4 = refl;
+  bonds-63 = refl;
+  unlike-95 = refl;
+  unlike-96 = refl;
+  star-336 = refl;
+  star-656 = refl;
+}

@@ -1,0 +1,2 @@
+// The match table: fragments that a molecule has twice (src/matches.rs).
+pub mod found;
