@@ -193,21 +193,21 @@ module _ (old now : List ℕ) (p h : ℕ) (wide : 4 * p ≤ length old) (w : Cle
 
 -- ---- adding
 
-pub note-old : (l : List ℕ) (x : ℕ) → true ≡ any (eqb x) l → note l x ≡ l
+pub note-known : (l : List ℕ) (x : ℕ) → true ≡ any (eqb x) l → note l x ≡ l
 unfolding note
-note-old l x e = rw (← e, note)
+note-known l x e = rw (← e, note)
 
-pub note-new : (l : List ℕ) (x : ℕ) → false ≡ any (eqb x) l → note l x ≡ l ++ (x ∷ [])
+pub note-fresh : (l : List ℕ) (x : ℕ) → false ≡ any (eqb x) l → note l x ≡ l ++ (x ∷ [])
 unfolding note
-note-new l x e = rw (← e, note)
+note-fresh l x e = rw (← e, note)
 
 -- note never shortens
 pub note-length : (l : List ℕ) (x : ℕ) → length l ≤ length (note l x)
 note-length l x = go (two (any (eqb x) l))
   where
     go : (any (eqb x) l ≡ true) ⊎ (any (eqb x) l ≡ false) → length l ≤ length (note l x)
-    go (inl e) = omega (arith, ap (λ (m : List ℕ). length m) (note-old l x (sym e)))
-    go (inr e) = omega (arith, ap (λ (m : List ℕ). length m) (note-new l x (sym e)), length-append l (x ∷ []))
+    go (inl e) = omega (arith, ap (λ (m : List ℕ). length m) (note-known l x (sym e)))
+    go (inr e) = omega (arith, ap (λ (m : List ℕ). length m) (note-fresh l x (sym e)), length-append l (x ∷ []))
 
 -- the table with x put at the end
 abbrev pub putIn : List ℕ → ℕ → ℕ → ℕ → ℕ → List ℕ
@@ -311,17 +311,17 @@ module _ (parts : List ℕ) (p : ℕ) (l : List ℕ) (f : Found parts p l) (n x 
 -- what adding answers: x is there; it is new and has room; it is new and has none
 module _ (parts : List ℕ) (p : ℕ) (l : List ℕ) (f : Found parts p l) (n x : ℕ) (long-is : length l ≡ n) where
   pub counted-old : true ≡ any (eqb x) l → Counted parts p (note l x) n
-  counted-old e = rw (note-old l x e) (record { count = λ h. sym long-is; found = λ h. f; over = λ h. omega arith })
+  counted-old e = rw (note-known l x e) (record { count = λ h. sym long-is; found = λ h. f; over = λ h. omega arith })
 
   pub counted-new : false ≡ any (eqb x) l → n < p → (h : ℕ) → h ≡ bucketOf x p → Counted (putIn parts p n x h) p (note l x) (n + 1)
-  counted-new e room h its = rw (note-new l x e) (record {
+  counted-new e room h its = rw (note-fresh l x e) (record {
     count = λ g. sym (more-length parts p l f n x h room long-is its);
     found = λ g. found-put parts p l f n x h room long-is its;
     over = λ g. omega arith;
   })
 
   pub counted-over : false ≡ any (eqb x) l → p ≤ n → Counted parts p (note l x) (n + 1)
-  counted-over e full = rw (note-new l x e) (record {
+  counted-over e full = rw (note-fresh l x e) (record {
     count = λ g. absurd (omega arith);
     found = λ g. absurd (omega arith);
     over = λ g. omega (arith, length-append l (x ∷ []));

@@ -1,6 +1,6 @@
 -- The theory of the match table. Upper crates cite Laws.
 pub mod Noting
-pub mod Groups
+pub mod ByLabel
 pub mod Pairing
 pub mod Once
 pub mod Sizes

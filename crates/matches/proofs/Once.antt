@@ -10,7 +10,7 @@ use Rattle.canonize.specs.Label.{label}
 use Rattle.canonize.proofs.Lists.{Distinct}
 use Rattle.matches.specs.Table.{Group, Match, Table, meet, pairUp, groups, extend}
 use Rattle.matches.proofs.Noting.{distinct-append}
-use Rattle.matches.proofs.Groups.{Keys, Every, Once, before-differ, groups-keys, groups-every, groups-once}
+use Rattle.matches.proofs.ByLabel.{Keys, Every, Once, before-differ, groups-keys, groups-every, groups-once}
 use Rattle.matches.proofs.Pairing.{Names, Matched, Grows, node-stays, node-fits, both, link, met, meet-by, met-names, met-grows, paired}
 
 -- the nodes of every match are there

@@ -21,7 +21,7 @@ use Rattle.canonize.proofs.Lists.{Distinct}
 use Rattle.matches.specs.Table.{Group, Match, Table, note, numberOf, meet, pairUp, groups, extend}
 use Rattle.matches.specs.Laws.{Twins}
 use Rattle.matches.proofs.Noting.{note-grows, note-old, note-new, note-distinct, number-is}
-use Rattle.matches.proofs.Groups.{Keys, Every, groups-keys, groups-every, groups-both}
+use Rattle.matches.proofs.ByLabel.{Keys, Every, groups-keys, groups-every, groups-both}
 
 pub twins-sym : (r : Bytes) (x y : ℕ) → Twins r x y → Twins r y x
 twins-sym r x y t = record {
