@@ -3,7 +3,7 @@ use mathlib.Core.Bool.{Bool, true, false}
 use mathlib.Core.List.{List, [], _∷_, _++_}
 use Prim.Native.Nat.{ℕ, _+_, _*_, _%_}
 use lib.Dec.{ltb, eqb}
-use Rattle.molecule.specs.Lists.{Bytes, pick}
+use Rattle.molecule.specs.Lists.{Bytes, pick, insertBy, sortBy}
 
 -- lexicographic order, as a test: a string comes after its own beginnings
 unfoldable pub lexLe : Bytes → Bytes → Bool
@@ -13,13 +13,13 @@ lexLe (x ∷ xs) (y ∷ ys) = pick (ltb x y) true (pick (ltb y x) false (lexLe x
 
 -- put into a sorted list, before the first that is not smaller
 unfoldable pub insert : Bytes → List Bytes → List Bytes
-insert x [] = x ∷ []
-insert x (y ∷ ys) = pick (lexLe x y) (x ∷ y ∷ ys) (y ∷ insert x ys)
+unfolding insertBy
+insert x ys = insertBy lexLe x ys
 
 -- sorted lexicographically
 unfoldable pub sort : List Bytes → List Bytes
-sort [] = []
-sort (x ∷ xs) = insert x (sort xs)
+unfolding sortBy insert
+sort xs = sortBy lexLe xs
 
 -- wrapping puts byte 0 before and byte 255 after
 unfoldable pub wrap : Bytes → Bytes
