@@ -12,3 +12,5 @@ pub mod Laws
 pub mod Chains
 pub mod Extending
 pub mod Candidates
+pub mod Placing
+pub mod Grouping

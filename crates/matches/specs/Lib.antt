@@ -2,5 +2,6 @@
 pub mod Table
 pub mod Rows
 pub mod Found
+pub mod Grouped
 pub mod Laws
 pub mod Examples

@@ -1,2 +1,3 @@
 // The match table: fragments that a molecule has twice (src/matches.rs).
 pub mod found;
+pub mod groups;
