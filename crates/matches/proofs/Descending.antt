@@ -2,7 +2,7 @@
 use mathlib.Core.Path.{_≡_, refl, sym, ap, ap₂, _∙_, subst}
 use mathlib.Core.Logic.{_⊎_, inl, inr, _≢_, ⊎-elim, _↔_}
 use mathlib.Core.Bool.{Bool, true, false, true≢false, _&&_}
-use mathlib.Core.List.{List, [], _∷_, _++_, map, List·Memᴰ as Mem, List·Memᴰ·head as m-head, List·Memᴰ·tail as m-tail, List·Memᴰ·cases-cons as mem-cons, List·Memᴰ·not-nil as not-nil, List·Memᴰ·append-cases as mem-cases, Memᴰ·append-left as mem-left, Memᴰ·append-right as mem-right, Memᴰ·cast as mem-cast, Memᴰ·map as mem-map, Memᴰ·of-map as mem-of-map}
+use mathlib.Core.List.{List, [], _∷_, List·Memᴰ as Mem, List·Memᴰ·head as m-head, List·Memᴰ·tail as m-tail, List·Memᴰ·cases-cons as mem-cons, List·Memᴰ·not-nil as not-nil, List·Memᴰ·append-cases as mem-cases, Memᴰ·append-left as mem-left, Memᴰ·append-right as mem-right, Memᴰ·cast as mem-cast, Memᴰ·map as mem-map, Memᴰ·of-map as mem-of-map}
 use Prim.Native.Nat.{ℕ, zero, suc, _+_, _-_, _≤_, _<_}
 use native.Mathlib.Omega.{arith}
 use native.Mathlib.Decide.{decLt, ℕ-discrete}
@@ -12,7 +12,7 @@ use lib.Bits.{bitAnd}
 use borrow.Author.Tests.{eqb-true, eq-eqb, leb-true, le-leb}
 use Rattle.bitset.specs.Bits.{size, isDisjoint}
 use Rattle.bitset.proofs.Bools.{and-true}
-use Rattle.molecule.specs.Lists.{Bytes, first, filter}
+use Rattle.molecule.specs.Lists.{Bytes, first}
 use Rattle.molecule.specs.Check.{accepted, check}
 use Rattle.molecule.specs.Connected.{Connected, Own}
 use Rattle.molecule.proofs.Lists.{at-mem, Ordered, ordered-append, ordered-map, ordered-keep, ordered-at, ordered-same}
@@ -24,6 +24,7 @@ use Rattle.canonize.proofs.Laws.{le-antisym}
 use Rattle.canonize.proofs.Lists.{Distinct, keep-mem, keep-intro}
 use Rattle.matches.specs.Table.{Match, notBelow, matchTable}
 use Rattle.matches.specs.Laws.{Twins}
+use Rattle.matches.specs.Descending.{countdown, withEach, descend, apartBelow}
 use Rattle.matches.proofs.Noting.{distinct-at, Above, above-of}
 use Rattle.matches.proofs.Pairing.{Names, Matched}
 use Rattle.matches.proofs.Sizes.{Precedes, precedes-size, twins-differ, unsorted, unsorted-sane}
@@ -57,11 +58,6 @@ strictly (x ∷ l) o d = (λ y m. above-over x y (above-of x y (o .0 y m)) (λ e
 
 -- ---- from the last down
 
--- n numbers, down to k
-abbrev pub countdown : ℕ → ℕ → List ℕ
-countdown k zero = []
-countdown k (suc n) = (k + n) ∷ countdown k n
-
 pub countdown-in : (k n i : ℕ) → Mem i (countdown k n) → (k ≤ i) × (i < k + n)
 countdown-in k zero i m = absurd (not-nil m)
 countdown-in k (suc n) i m = ⊎-elim (λ (e : i ≡ k + n). (omega arith, omega arith)) (λ (t : Mem i (countdown k n)). let w = countdown-in k n i t in (omega arith, omega arith)) (mem-cons m)
@@ -77,15 +73,6 @@ countdown-has k (suc n) i a b = go (ℕ-discrete i (k + n)) (countdown-has k n i
 countdown-falls : (k n : ℕ) → Ordered (λ i j. j < i) (countdown k n)
 countdown-falls k zero = tt
 countdown-falls k (suc n) = (λ i m. omega (arith, countdown-in k n i m), countdown-falls k n)
-
--- x with each y of a list
-abbrev pub withEach : ℕ → List ℕ → List Match
-withEach x ys = map (λ (y : ℕ). record { larger = x; smaller = y }) ys
-
--- the matches of the nodes below n, from the last one down: x with those that `below` gives
-abbrev pub descend : (ℕ → List ℕ) → ℕ → List Match
-descend below zero = []
-descend below (suc x) = withEach x (below x) ++ descend below x
 
 descend-in : (below : ℕ → List ℕ) (n : ℕ) (m : Match) → Mem m (descend below n) → (m .larger < n) × Mem (m .smaller) (below (m .larger))
 descend-in below zero m k = absurd (not-nil k)
@@ -177,10 +164,6 @@ module _ (r : Bytes) (l : List ℕ) (o : Ordered (Precedes r) l) where
       least y k (no d) = omega arith
 
 -- ---- the table
-
--- the nodes below x in its group, from x − 1 down, that are disjoint from it
-abbrev pub apartBelow : List ℕ → (ℕ → ℕ) → ℕ → List ℕ
-apartBelow l start x = filter (λ y. isDisjoint (getD l x 0) (getD l y 0)) (countdown (start x) (x - start x))
 
 module _ (r : Bytes) (ok : check r ≡ accepted) (start : ℕ → ℕ) (s : Starts r (nodes r) start) where
   abbrev listed : List Match

@@ -14,3 +14,5 @@ pub mod Extending
 pub mod Candidates
 pub mod Placing
 pub mod Grouping
+pub mod Writing
+pub mod Recorded

@@ -3,5 +3,7 @@ pub mod Table
 pub mod Rows
 pub mod Found
 pub mod Grouped
+pub mod Descending
+pub mod Written
 pub mod Laws
 pub mod Examples

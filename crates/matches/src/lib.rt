@@ -1,3 +1,4 @@
 // The match table: fragments that a molecule has twice (src/matches.rs).
 pub mod found;
 pub mod groups;
+pub mod table;
