@@ -65,7 +65,7 @@ last-same l m p h (suc n) e = go (ℕ-discrete (bucketOf (getD l n 0) p) h) (las
 
 -- ---- walking
 
-any-end : (x y : ℕ) (l : List ℕ) → y ≢ x → any (eqb x) (l ++ (y ∷ [])) ≡ any (eqb x) l
+pub any-end : (x y : ℕ) (l : List ℕ) → y ≢ x → any (eqb x) (l ++ (y ∷ [])) ≡ any (eqb x) l
 any-end x y [] n = rw (ne-eqb x y (λ e. n (sym e)))
 any-end x y (z ∷ l) n = rw (any-end x y l n)
 
@@ -73,7 +73,7 @@ pick-true : (b : Bool) → pick b true true ≡ true
 pick-true true = refl
 pick-true false = refl
 
-any-hit : (x : ℕ) (l : List ℕ) → any (eqb x) (l ++ (x ∷ [])) ≡ true
+pub any-hit : (x : ℕ) (l : List ℕ) → any (eqb x) (l ++ (x ∷ [])) ≡ true
 any-hit x [] = rw (eq-eqb x x refl)
 any-hit x (z ∷ l) = rw (any-hit x l) (pick-true (eqb x z))
 

@@ -16,3 +16,6 @@ pub mod Placing
 pub mod Grouping
 pub mod Writing
 pub mod Recorded
+pub mod Noding
+pub mod Meeting
+pub mod Fitting

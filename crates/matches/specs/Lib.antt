@@ -5,5 +5,6 @@ pub mod Found
 pub mod Grouped
 pub mod Descending
 pub mod Written
+pub mod Noded
 pub mod Laws
 pub mod Examples
