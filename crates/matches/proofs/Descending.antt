@@ -24,7 +24,7 @@ use Rattle.canonize.proofs.Laws.{le-antisym}
 use Rattle.canonize.proofs.Lists.{Distinct, keep-mem, keep-intro}
 use Rattle.matches.specs.Table.{Match, notBelow, matchTable}
 use Rattle.matches.specs.Laws.{Twins}
-use Rattle.matches.specs.Descending.{countdown, withEach, descend, apartBelow}
+use Rattle.matches.specs.Descending.{countdown, withEach, descend, apartBelow, Akin, Starts}
 use Rattle.matches.proofs.Noting.{distinct-at, Above, above-of}
 use Rattle.matches.proofs.Pairing.{Names, Matched}
 use Rattle.matches.proofs.Sizes.{Precedes, precedes-size, twins-differ, unsorted, unsorted-sane}
@@ -106,12 +106,6 @@ descend-over below h (suc n) =
 
 -- ---- groups by the numbers of their nodes
 
--- x and y are of one size, at least 2, and of one label
-pub record Akin (r : Bytes) (x y : ℕ) : Type 0 where
-  pub big : 2 ≤ size x
-  pub sizes : size x ≡ size y
-  pub labels : label r x ≡ label r y
-
 abbrev akin : Bytes → ℕ → ℕ → Bool
 akin r x y = leb 2 (size x) && (eqb (size x) (size y) && same (label r x) (label r y))
 
@@ -123,10 +117,6 @@ akin-of r x y e =
 
 akin-is : (r : Bytes) (x y : ℕ) → Akin r x y → akin r x y ≡ true
 akin-is r x y k = rw (le-leb 2 (size x) (k .big), eq-eqb (size x) (size y) (k .sizes)) (same-iff (label r x) (label r y) .1 (k .labels))
-
--- start gives each node's group its first number: what is below x and not below start x is of x's group, and nothing else below x is
-abbrev pub Starts : Bytes → List ℕ → (ℕ → ℕ) → Type 0
-Starts r l start = (x : ℕ) → x < length l → (start x ≤ x) × ((y : ℕ) → y < x → (start x ≤ y) ↔ Akin r (getD l x 0) (getD l y 0))
 
 -- the first number of x's group
 abbrev pub groupStart : Bytes → List ℕ → ℕ → ℕ

@@ -16,7 +16,8 @@ use Rattle.matches.proofs.Pairing.{Grows, pairUp-grows}
 use Rattle.matches.proofs.Sizes.{Precedes, sizes-grows, start, start-round, unsorted-sane}
 use Rattle.matches.proofs.Listed.{nodes, sorted-distinct, nodes-are, matches-are, m1, m2}
 use Rattle.matches.proofs.Complete.{m3, all-listed}
-use Rattle.matches.proofs.Descending.{Akin, Starts, groupStart, together, group-starts}
+use Rattle.matches.specs.Descending.{Akin, Starts}
+use Rattle.matches.proofs.Descending.{groupStart, together, group-starts}
 pub use Rattle.matches.proofs.Sizes.{candidates-distinct}
 pub use Rattle.matches.proofs.Descending.{descending}
 

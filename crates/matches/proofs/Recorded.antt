@@ -10,10 +10,10 @@ use Rattle.molecule.specs.Lists.{Bytes, pick, filter}
 use Rattle.molecule.specs.Check.{accepted, check}
 use Rattle.molecule.proofs.Lists.{map-at}
 use Rattle.matches.specs.Table.{Match, Table, matchTable, Pair, pairsOf, pair, sizeOf, pairs}
-use Rattle.matches.specs.Descending.{countdown, withEach, descend, apartBelow}
+use Rattle.matches.specs.Descending.{countdown, withEach, descend, apartBelow, Starts}
 use Rattle.matches.specs.Written.{fourWords, wordsOf, startIn, matchesIn, StartsBefore, Recorded}
 use Rattle.matches.proofs.Listed.{nodes-are, matches-are, sorted-sound}
-use Rattle.matches.proofs.Descending.{countdown-in, Starts, descending}
+use Rattle.matches.proofs.Descending.{countdown-in, descending}
 
 -- ---- lists that agree where they are read
 

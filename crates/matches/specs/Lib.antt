@@ -6,5 +6,6 @@ pub mod Grouped
 pub mod Descending
 pub mod Written
 pub mod Noded
+pub mod Sized
 pub mod Laws
 pub mod Examples
