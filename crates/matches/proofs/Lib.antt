@@ -19,3 +19,4 @@ pub mod Recorded
 pub mod Noding
 pub mod Meeting
 pub mod Fitting
+pub mod Stages
