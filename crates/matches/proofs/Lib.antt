@@ -20,3 +20,4 @@ pub mod Noding
 pub mod Meeting
 pub mod Fitting
 pub mod Stages
+pub mod Stepping

@@ -2,4 +2,5 @@
 pub mod found;
 pub mod groups;
 pub mod nodes;
+pub mod rounds;
 pub mod table;
