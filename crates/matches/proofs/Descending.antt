@@ -84,7 +84,7 @@ descend-in below (suc n) m k = ⊎-elim
     (omega arith, subst (λ (x : ℕ). Mem (m .smaller) (below x)) e (mem-cast (sym f) (w .1))))
     (λ (o : Mem m (descend below n)). let w = descend-in below n m o in (omega arith, w .1)) (mem-cases (withEach n (below n)) k)
 
-descend-has : (below : ℕ → List ℕ) (n x y : ℕ) → x < n → Mem y (below x) → Mem (record { larger = x; smaller = y }) (descend below n)
+pub descend-has : (below : ℕ → List ℕ) (n x y : ℕ) → x < n → Mem y (below x) → Mem (record { larger = x; smaller = y }) (descend below n)
 descend-has below zero x y l m = absurd (omega arith)
 descend-has below (suc n) x y l m = go (ℕ-discrete x n) (λ h. descend-has below n x y h m)
   where

@@ -21,3 +21,5 @@ pub mod Meeting
 pub mod Fitting
 pub mod Stages
 pub mod Stepping
+pub mod Building
+pub mod Answering

@@ -7,5 +7,6 @@ pub mod Descending
 pub mod Written
 pub mod Noded
 pub mod Sized
+pub mod Built
 pub mod Laws
 pub mod Examples
