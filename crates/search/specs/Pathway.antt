@@ -37,8 +37,8 @@ module _ (r : Bytes) where
   -- ---- the test
 
   -- a fragment: a connected set of bonds
-  unfoldable pub fragment : ℕ → Bool
-  fragment s = isSub s (allBonds r) && connected r s
+  unfoldable pub isFragment : ℕ → Bool
+  isFragment s = isSub s (allBonds r) && connected r s
 
   -- a single bond, or the label of an earlier join's union
   unfoldable pub ready : List ℕ → ℕ → Bool
@@ -51,7 +51,7 @@ module _ (r : Bytes) where
   -- two disjoint fragments with a common atom, each ready
   unfoldable pub isJoin : List ℕ → Join → Bool
   isJoin made j =
-      fragment (j .left) && fragment (j .right) && isDisjoint (j .left) (j .right) && meets (j .left) (j .right)
+      isFragment (j .left) && isFragment (j .right) && isDisjoint (j .left) (j .right) && meets (j .left) (j .right)
       && ready made (j .left) && ready made (j .right)
 
   -- each is a join after those whose unions are made, newest first; the last union is all bonds
