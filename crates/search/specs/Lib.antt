@@ -6,3 +6,4 @@ pub mod Search
 pub mod Series
 pub mod Pathway
 pub mod Answer
+pub mod Examples
