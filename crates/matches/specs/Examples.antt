@@ -1,8 +1,8 @@
 -- Worked match tables and rows 9 and 10, by computing.
 use mathlib.Core.Path.{_≡_, refl}
-use mathlib.Core.List.{List, [], _∷_, _++_}
+use mathlib.Core.List.{List, [], _∷_, _++_, map}
 use Prim.Native.Nat.{ℕ, zero, suc}
-use lib.ListN.{set}
+use lib.ListN.{length, set}
 use Rattle.molecule.specs.Lists.{Bytes, insertBy, sortBy}
 use Rattle.molecule.specs.Check.{Answer, accepted, refused}
 use Rattle.molecule.specs.Examples.{compute as molecules, times, chainEnds, chain}
@@ -40,6 +40,22 @@ pub record Tables : Type 0 where
 pub tables : Tables
 unfolding compute starEnds star
 tables = record { chain-4 = refl; chain-5-nodes = refl; chain-5 = refl; star-4 = refl; oxygen = refl }
+
+-- how many matches some small molecules of the public list have
+pub counts :
+    map (λ r. length (matchTable r .matches))
+    ((7 ∷ 6 ∷ 6 ∷ 6 ∷ 6 ∷ 8 ∷ 6 ∷ 8 ∷ 8 ∷ 4 ∷ 1 ∷ 5 ∷ 1 ∷ 0 ∷ 4 ∷ 6 ∷ 5 ∷ 2 ∷ 4 ∷ 3 ∷ 2 ∷ 1 ∷ 1 ∷ 1 ∷ 1 ∷ 1 ∷ 1 ∷ [])
+    ∷ (7 ∷ 6 ∷ 6 ∷ 6 ∷ 6 ∷ 6 ∷ 6 ∷ 6 ∷ 6 ∷ 6 ∷ 2 ∷ 3 ∷ 4 ∷ 2 ∷ 1 ∷ 6 ∷ 5 ∷ 3 ∷ 2 ∷ 5 ∷ 0 ∷ 1 ∷ 1 ∷ 1 ∷ 1 ∷ 1 ∷ 1 ∷ [])
+    ∷ (8 ∷ 7 ∷ 6 ∷ 6 ∷ 6 ∷ 6 ∷ 6 ∷ 6 ∷ 6 ∷ 6 ∷ 3 ∷ 2 ∷ 0 ∷ 4 ∷ 7 ∷ 2 ∷ 1 ∷ 7 ∷ 2 ∷ 4 ∷ 5 ∷ 6 ∷ 6 ∷ 7 ∷ 1 ∷ 1 ∷ 1 ∷ 1 ∷ 1 ∷ 1 ∷ 1 ∷ [])
+    ∷ (10 ∷ 9 ∷ 6 ∷ 6 ∷ 6 ∷ 6 ∷ 6 ∷ 6 ∷ 6 ∷ 6 ∷ 6 ∷ 6 ∷ 4 ∷ 0 ∷ 9 ∷ 2 ∷ 8 ∷ 7 ∷ 1 ∷ 5 ∷ 3 ∷ 9 ∷ 6 ∷ 1 ∷ 1 ∷ 2 ∷ 3 ∷ 4 ∷ 4 ∷ 7 ∷ 1 ∷ 1 ∷ 2 ∷ 1 ∷ 1 ∷ 1 ∷ 2 ∷ 2 ∷ 1 ∷ [])
+    ∷ (10 ∷ 9 ∷ 6 ∷ 6 ∷ 6 ∷ 6 ∷ 6 ∷ 6 ∷ 6 ∷ 6 ∷ 6 ∷ 6 ∷ 7 ∷ 8 ∷ 9 ∷ 0 ∷ 4 ∷ 5 ∷ 1 ∷ 3 ∷ 4 ∷ 8 ∷ 7 ∷ 6 ∷ 4 ∷ 2 ∷ 9 ∷ 2 ∷ 5 ∷ 3 ∷ 1 ∷ 1 ∷ 1 ∷ 1 ∷ 1 ∷ 1 ∷ 1 ∷ 1 ∷ 1 ∷ [])
+    ∷ (9 ∷ 8 ∷ 6 ∷ 6 ∷ 6 ∷ 6 ∷ 6 ∷ 6 ∷ 6 ∷ 6 ∷ 6 ∷ 6 ∷ 4 ∷ 4 ∷ 8 ∷ 1 ∷ 8 ∷ 5 ∷ 8 ∷ 8 ∷ 3 ∷ 8 ∷ 0 ∷ 4 ∷ 7 ∷ 8 ∷ 2 ∷ 1 ∷ 1 ∷ 1 ∷ 2 ∷ 1 ∷ 1 ∷ 1 ∷ 1 ∷ [])
+    ∷ (7 ∷ 6 ∷ 8 ∷ 8 ∷ 8 ∷ 8 ∷ 8 ∷ 8 ∷ 8 ∷ 5 ∷ 6 ∷ 4 ∷ 5 ∷ 2 ∷ 5 ∷ 5 ∷ 1 ∷ 3 ∷ 5 ∷ 5 ∷ 0 ∷ 2 ∷ 2 ∷ 2 ∷ 2 ∷ 2 ∷ 2 ∷ [])
+    ∷ (10 ∷ 9 ∷ 6 ∷ 6 ∷ 6 ∷ 6 ∷ 6 ∷ 6 ∷ 6 ∷ 6 ∷ 6 ∷ 6 ∷ 3 ∷ 2 ∷ 1 ∷ 3 ∷ 3 ∷ 9 ∷ 3 ∷ 7 ∷ 2 ∷ 8 ∷ 0 ∷ 3 ∷ 3 ∷ 4 ∷ 3 ∷ 6 ∷ 3 ∷ 5 ∷ 1 ∷ 3 ∷ 3 ∷ 2 ∷ 2 ∷ 1 ∷ 1 ∷ 1 ∷ 2 ∷ [])
+    ∷ [])
+    ≡ 1 ∷ 8 ∷ 17 ∷ 25 ∷ 33 ∷ 41 ∷ 55 ∷ 83 ∷ []
+unfolding compute
+counts = refl
 
 -- rows 9 and 10: the words of parts, then those of pairs
 pub record Rows : Type 0 where

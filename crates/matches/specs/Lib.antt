@@ -8,5 +8,6 @@ pub mod Written
 pub mod Noded
 pub mod Sized
 pub mod Built
+pub mod Counted
 pub mod Laws
 pub mod Examples

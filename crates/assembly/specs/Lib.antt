@@ -1,0 +1,2 @@
+-- The code's values as those of the search's definitions.
+pub mod Views

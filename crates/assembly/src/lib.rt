@@ -1,0 +1,2 @@
+// The search for the least score, and score (src/state.rs, src/memoize.rs, src/assembly.rs).
+pub mod state;

@@ -1,0 +1,168 @@
+-- Document 01, 'Molecules to try': the starred rows as one checked table, by computing; what is lent afterwards; and demand 3 on six molecules.
+use mathlib.Core.Path.{_≡_, refl}
+use mathlib.Core.Bool.{Bool, true, false, _&&_}
+use mathlib.Core.List.{List, [], _∷_, _++_, map, flatMap}
+use Prim.Native.Nat.{ℕ, suc}
+use lib.ListN.{length, replicate, set}
+use lib.Count.{trailingZeros}
+use lib.Dec.{eqb}
+use Rattle.molecule.specs.Lists.{Bytes}
+use Rattle.molecule.specs.Examples.{times, chain}
+use Rattle.canonize.specs.Strings.{sort}
+use Rattle.matches.specs.Table.{Pair, pair, sizeOf, pairs}
+use Rattle.matches.specs.Examples.{compute as tables, starEnds, star}
+use Rattle.bounds.specs.Numbers.{ceilLog2}
+use Rattle.bounds.specs.Bounds.{usableEdges, intTerm, intBound, usableEdgesBound, leftOut, leastSize}
+use Rattle.search.specs.Setting.{Setting, Room}
+use Rattle.search.specs.State.{struck, inside, bigComponents, root, removable, maskOf, keep, remove, child}
+use Rattle.search.specs.Memo.{sameKey, recall, remember, keyOf, entryOf}
+use Rattle.search.specs.Search.{lower, intStops, ask, tried, children, branch, counted, visit, search}
+use Rattle.search.specs.Series.{allowedFrom, allowed, seriesScore, seriesFrom, allSeries, leastOf, leastScore}
+use Rattle.search.specs.Pathway.{Join, union, atomsOf, isFragment, ready, meets, isJoin, isPathwayAfter, isPathway, joinUp, assemble, grown, split, rebuilt, joinsFrom, joins}
+use Rattle.search.specs.Answer.{entryAnswer, ScoreAnswer, scored, turnedBack, searched, scoreAnswer, trailAfter, tableAfter}
+
+-- to unfold it is to unfold every definition
+unfoldable pub compute : Unit {0}
+unfolding tables starEnds star flatMap trailingZeros sort pair sizeOf
+    ceilLog2 usableEdges intTerm intBound usableEdgesBound leftOut leastSize
+    struck inside bigComponents root removable maskOf keep remove child sameKey recall remember keyOf entryOf
+    lower intStops ask tried children branch counted visit search
+    allowedFrom allowed seriesScore seriesFrom allSeries leastOf leastScore
+    union atomsOf isFragment ready meets isJoin isPathwayAfter isPathway joinUp assemble grown split rebuilt joinsFrom joins
+    entryAnswer searched scoreAnswer trailAfter tableAfter
+compute = tt
+
+-- ---- molecules, settings and room
+
+-- chain 6 6 6 6 8
+abbrev pub oxygen : Bytes
+oxygen = set (chain 4) 6 8
+
+-- a 4, n 3, bonds 0-1 1-2 2-0
+abbrev pub triangle : Bytes
+triangle = 4 ∷ 3 ∷ 6 ∷ 6 ∷ 6 ∷ 6 ∷ 0 ∷ 1 ∷ 1 ∷ 2 ∷ 2 ∷ 0 ∷ 1 ∷ 1 ∷ 1 ∷ []
+
+-- the star of n bonds, all carbon
+abbrev pub carbons : ℕ → Bytes
+carbons n = star (times (suc n) 6) n
+
+-- bounds 3, memo 0
+abbrev pub withBudget : ℕ → Setting
+withBudget k = record { bounds = 3; memo = 0; budget = k }
+
+-- bounds 3, memo 0, ample budget
+abbrev pub usual : Setting
+usual = withBudget 4294967295
+
+-- bounds 0, either memo
+abbrev pub boundless : ℕ → Setting
+boundless memo = record { bounds = 0; memo = memo; budget = 4294967295 }
+
+-- words of parts, pairs and memo; trail and desk as they must be
+abbrev pub lent : ℕ → ℕ → ℕ → Room
+lent parts pairs memo = record { trail = 32; parts = parts; pairs = pairs; memo = memo; desk = 4096 }
+
+-- ample tables
+abbrev pub ample : Room
+ample = lent 1048576 1048576 1048576
+
+-- ---- the starred rows
+
+-- a molecule, a setting, the room lent, and what document 01 says
+pub record Row : Type 0 where
+  pub bytes : Bytes
+  pub setting : Setting
+  pub room : Room
+  pub says : ScoreAnswer
+
+abbrev pub try : Bytes → Setting → Room → ScoreAnswer → Row
+try r setting room a = record { bytes = r; setting = setting; room = room; says = a }
+
+-- the starred rows, in the order of the document
+abbrev pub starred : List Row
+starred =
+    try (chain 1) usual ample (scored 0 0 1 []) ∷
+    try (chain 2) usual ample (scored 1 0 1 []) ∷
+    try (chain 3) usual ample (scored 2 0 1 []) ∷
+    try (chain 4) usual ample (scored 2 1 2 (0 ∷ [])) ∷
+    try (chain 5) usual ample (scored 3 3 4 (0 ∷ [])) ∷
+    try (chain 5) (boundless 0) ample (scored 3 3 4 (0 ∷ [])) ∷
+    try (chain 5) (boundless 1) ample (scored 3 3 4 (0 ∷ [])) ∷
+    try (carbons 4) usual ample (scored 2 3 4 (0 ∷ [])) ∷
+    try oxygen usual ample (scored 3 0 1 []) ∷
+    try (chain 4) (withBudget 1) ample (turnedBack 11 1) ∷
+    try (chain 4) (withBudget 2) ample (scored 2 1 2 (0 ∷ [])) ∷
+    try (chain 4) usual (lent 95 4096 0) (turnedBack 9 2) ∷
+    try (chain 4) usual (lent 96 4096 0) (scored 2 1 2 (0 ∷ [])) ∷
+    try (chain 4) usual (lent 4096 3 0) (turnedBack 10 1) ∷
+    try (chain 4) usual (lent 4096 4 0) (scored 2 1 2 (0 ∷ [])) ∷
+    try (chain 5) (boundless 1) (lent 4096 4096 159) (turnedBack 12 2) ∷
+    try (chain 5) (boundless 1) (lent 4096 4096 160) (scored 3 3 4 (0 ∷ [])) ∷
+    try triangle usual ample (turnedBack 6 3) ∷ []
+
+-- every row's answer is what the document says
+pub starred-rows : map (λ row. scoreAnswer (row .bytes) (row .setting) (row .room)) starred ≡ map (λ row. row .says) starred
+unfolding compute
+starred-rows = refl
+
+-- rows 7 and 8; row 8 with one number of trail less, one word of desk less; budget 0; memo on with no entry, where Int stops the root and where it does not
+pub other-rows :
+    scoreAnswer (chain 4) (record { bounds = 4; memo = 0; budget = 9 }) ample
+    ∷ scoreAnswer (chain 4) (record { bounds = 0; memo = 2; budget = 9 }) ample
+    ∷ scoreAnswer (chain 4) usual (record { trail = 31; parts = 4096; pairs = 4096; memo = 0; desk = 4096 })
+    ∷ scoreAnswer (chain 4) usual (record { trail = 32; parts = 4096; pairs = 4096; memo = 0; desk = 4095 })
+    ∷ scoreAnswer (chain 4) (withBudget 0) ample
+    ∷ scoreAnswer (chain 3) (record { bounds = 1; memo = 1; budget = 9 }) (lent 4096 4096 0)
+    ∷ scoreAnswer (chain 3) (record { bounds = 0; memo = 1; budget = 9 }) (lent 4096 4096 0)
+    ∷ []
+    ≡ turnedBack 7 0 ∷ turnedBack 7 0 ∷ turnedBack 8 0 ∷ turnedBack 8 0 ∷ turnedBack 11 0 ∷ scored 2 0 1 [] ∷ turnedBack 12 1 ∷ []
+unfolding compute
+other-rows = refl
+
+-- ---- what is lent, after a score and after rows 6 and 10
+
+pub lent-after-score :
+    trailAfter (scoreAnswer (chain 4) usual ample) (replicate 34 9) ++ tableAfter (scoreAnswer (chain 4) usual ample) (5 ∷ 5 ∷ [])
+    ≡ replicate 32 0 ++ (9 ∷ 9 ∷ 0 ∷ 0 ∷ [])
+unfolding compute
+lent-after-score = refl
+
+pub lent-after-refusals :
+    trailAfter (turnedBack 10 1) (9 ∷ []) ++ (tableAfter (turnedBack 10 1) (5 ∷ []) ++ tableAfter (scoreAnswer triangle usual ample) (5 ∷ []))
+    ≡ 9 ∷ 0 ∷ 5 ∷ []
+unfolding compute
+lent-after-refusals = refl
+
+-- ---- demand 3: the index is the least score, the trail is an allowed series that scores it, and its joins are a pathway of that many joins
+
+abbrev pub demand3 : Bytes → ℕ → List ℕ → Bool
+demand3 r index trail =
+    eqb (leastScore r (pairs r)) index && allowed r (pairs r) trail && eqb (seriesScore r (pairs r) trail) index
+    && isPathway r (joins r (pairs r) trail) && eqb (length (joins r (pairs r) trail)) index
+
+pub demand3-rows :
+    demand3 (chain 1) 0 [] ∷ demand3 (chain 3) 2 [] ∷ demand3 (chain 4) 2 (0 ∷ []) ∷ demand3 (chain 5) 3 (0 ∷ []) ∷ demand3 (carbons 4) 2 (0 ∷ []) ∷ demand3 oxygen 3 [] ∷ []
+    ≡ replicate 6 true
+unfolding compute
+demand3-rows = refl
+
+-- ---- what the tests of series and pathways refuse
+
+-- of a chain of 5 with its three matches: one removal; a number twice; a number that falls; no such match
+pub series-tested :
+    map (allowed (chain 5) (pairs (chain 5))) ((1 ∷ []) ∷ (0 ∷ 0 ∷ []) ∷ (2 ∷ 1 ∷ []) ∷ (3 ∷ []) ∷ [])
+    ≡ true ∷ false ∷ false ∷ false ∷ []
+unfolding compute
+series-tested = refl
+
+-- a join of two sets
+abbrev pub with : ℕ → ℕ → Join
+with x y = record { left = x; right = y }
+
+-- of a chain of 4: two joins, the second of copies; no join; not all bonds; a fragment not made; no common atom; a bond twice
+pub pathways-tested :
+    map (isPathway (chain 4))
+    ((with 1 2 ∷ with 3 12 ∷ []) ∷ [] ∷ (with 1 2 ∷ with 3 4 ∷ []) ∷ (with 3 12 ∷ []) ∷ (with 1 4 ∷ with 5 10 ∷ []) ∷ (with 1 2 ∷ with 3 6 ∷ with 7 8 ∷ []) ∷ [])
+    ≡ true ∷ false ∷ false ∷ false ∷ false ∷ false ∷ []
+unfolding compute
+pathways-tested = refl
