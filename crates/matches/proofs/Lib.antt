@@ -23,3 +23,4 @@ pub mod Stages
 pub mod Stepping
 pub mod Building
 pub mod Answering
+pub mod Counting
