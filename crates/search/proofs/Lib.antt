@@ -2,3 +2,4 @@
 pub mod Covers
 pub mod Tests
 pub mod Fragments
+pub mod Building
