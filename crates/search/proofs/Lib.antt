@@ -3,3 +3,4 @@ pub mod Covers
 pub mod Tests
 pub mod Fragments
 pub mod Building
+pub mod Rebuilding
