@@ -4,3 +4,4 @@ pub mod Tests
 pub mod Fragments
 pub mod Building
 pub mod Rebuilding
+pub mod Pathways
