@@ -1,5 +1,5 @@
 -- Putting a connected set together from parts: `joinUp`, `assemble` and `grown` make lawful joins, as many as there are parts to add, and the last union is the whole set.
--- Assumes 64 bonds or fewer.
+-- Assumes nothing; where a piece is grown bond by bond, 64 bonds or fewer.
 use mathlib.Core.Path.{_≡_, refl, sym, ap, subst, _∙_}
 use mathlib.Core.Bool.{true}
 use mathlib.Core.Logic.{_⊎_, inl, inr, _≢_}
@@ -18,8 +18,8 @@ use Rattle.molecule.specs.Connected.{Own, Connected}
 use Rattle.molecule.proofs.Lists.{mem-at}
 use Rattle.molecule.proofs.Components.{own-sub, own-word}
 use Rattle.search.specs.Pathway.{Join, union, meets, joinUp, assemble, grown}
-use Rattle.search.specs.Joining.{Cover, Picks, after, Ready, JoinAfter, JoinsAfter, EndsWith, Built, Parts}
-use Rattle.search.proofs.Covers.{cover-mem, cover-pick, pick-mem, pick-within, pick-length, at-pick, singles-cover, low-sub, low-less, less-self, sub-none, apart-swap, less-apart}
+use Rattle.search.specs.Joining.{Cover, Picks, after, Ready, EndsWith, Built, Parts}
+use Rattle.search.proofs.Covers.{cover-pick, pick-mem, pick-within, pick-length, at-pick, singles-cover, low-sub, low-less, less-self, sub-none, apart-swap, less-apart}
 use Rattle.search.proofs.Tests.{first-finds, ready-more}
 use Rattle.search.proofs.Fragments.{single-connected, union-connected, part-meets}
 
@@ -29,6 +29,7 @@ use Rattle.search.proofs.Fragments.{single-connected, union-connected, 
 less-all : (p s : ℕ) → Sub s p → diff p s ≡ 0 → s ≡ p
 less-all p s = sets (sub (v 1) (v 0) ∷ is (less (v 0) (v 1)) none ∷ []) (is (v 1) (v 0)) (p ∷ s ∷ []) tt
 
+-- a part and what is joined to it are a part
 both-sub : (p s x : ℕ) → Sub s p → Sub x (diff p s) → Sub (bitOr s x) p
 both-sub p s x = sets (sub (v 1) (v 0) ∷ sub (v 2) (less (v 0) (v 1)) ∷ []) (sub (or (v 1) (v 2)) (v 0)) (p ∷ s ∷ x ∷ []) tt
 
@@ -115,6 +116,7 @@ module _ (r : Bytes) where
       last made t p a (inl e) = (made, e .0 ∙ ap {B = List ℕ} (λ (k : ℕ). k ∷ made) (e .1))
       last made t p a (inr e) = e
 
+  -- the same for all parts
   pub assemble-builds : (s : ℕ) (parts made : List ℕ) (p : ℕ) → Own r p → Connected r p → Sub s p → Connected r s → Ready r made s
       → Cover (diff p s) parts → Parts r made parts → Built r made (assemble r s parts) s p
   unfolding assemble

@@ -27,6 +27,7 @@ sub-less p x y = sets (sub (v 1) (less (v 0) (v 2)) ∷ []) (sub (v 1) (v 0)) (p
 pub less-apart : (p x y : ℕ) → Sub x (diff p y) → Disjoint x y
 less-apart p x y = sets (sub (v 1) (less (v 0) (v 2)) ∷ []) (apart (v 1) (v 2)) (p ∷ x ∷ y ∷ []) tt
 
+-- two sets of which the one lies outside the other: so does the other outside the one
 sub-less-swap : (p x y : ℕ) → Sub y p → Sub x (diff p y) → Sub y (diff p x)
 sub-less-swap p x y = sets (sub (v 2) (v 0) ∷ sub (v 1) (less (v 0) (v 2)) ∷ []) (sub (v 2) (less (v 0) (v 1))) (p ∷ x ∷ y ∷ []) tt
 
@@ -171,6 +172,7 @@ at-pick (suc k) (x ∷ l) h = later (at-pick k l (omega arith))
 
 -- ---- members of a flat list
 
+-- an element of f x is one of the flat list, and each of that is one of some f x
 pub flat-mem : (f : ℕ → List ℕ) (x y : ℕ) (l : List ℕ) → Mem x l → Mem y (f x) → Mem y (flatMap f l)
 unfolding flatMap
 flat-mem f x y [] m n = absurd (not-nil m)
@@ -198,9 +200,11 @@ low-sub s p l = one-sub s (low s) (low-bit 64 s p l)
 pub low-less : (s : ℕ) → 0 < s → s < 2 ^ 64 → size (diff s (2 ^ low s)) + 1 ≡ size s
 low-less s p l = size-remove s (low s) (low-bit 64 s p l)
 
+-- the empty set has no bonds
 none-cover : (s : ℕ) → s ≡ 0 → Cover s (map (λ b. 2 ^ b) (members s))
 none-cover s e = subst (λ (k : List ℕ). Cover s (map (λ b. 2 ^ b) k)) (sym (members-done s e)) e
 
+-- by induction on the size, the lowest bond first
 singles-in : (f s : ℕ) → size s ≤ f → s < 2 ^ 64 → Cover s (map (λ b. 2 ^ b) (members s))
 singles-in zero s h l = none-cover s (size-zero s (omega arith))
 singles-in (suc f) s h l = go (none-or s) (singles-in f (diff s (2 ^ low s)))

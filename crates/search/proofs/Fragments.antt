@@ -4,7 +4,7 @@ use mathlib.Core.Path.{_≡_, refl, sym, ap, subst, _∙_}
 use mathlib.Core.Bool.{true, not}
 use mathlib.Core.Logic.{_⊎_, inl, inr, _≢_, ⊎-elim}
 use mathlib.Core.List.{List, [], _∷_, List·Memᴰ as Mem, List·Memᴰ·head as m-head, List·Memᴰ·tail as m-tail}
-use Prim.Native.Nat.{ℕ, _^_, _≤_, _<_}
+use Prim.Native.Nat.{ℕ, _^_, _≤_}
 use native.Mathlib.Omega.{arith}
 use native.Mathlib.Decide.{ℕ-discrete}
 use lib.Bits.{bitAnd, bitOr}
@@ -16,19 +16,19 @@ use Rattle.bitset.proofs.Laws.{bit-le, bit-and, bit-one, bit-diff, bit-first, m
 use Rattle.bitset.proofs.Members.{in-or-out, sub-in, or-left-in, or-right-in, and-in, diff-sub, one-is, some-member, not-empty}
 use Rattle.bitset.proofs.Decide.{sets, v as set, or, less, none, is, sub}
 use Rattle.molecule.specs.Lists.{Bytes}
-use Rattle.molecule.specs.Record.{atoms, bonds, endA, endB, allBonds}
+use Rattle.molecule.specs.Record.{bonds, endA, endB, allBonds}
 use Rattle.molecule.specs.Check.{accepted, check}
 use Rattle.molecule.specs.Touch.{components}
 use Rattle.molecule.specs.Connected.{Touch, Own, Linked, here, step, Connected}
 use Rattle.molecule.specs.Tree.{Joins, Walk, stay, along, Tree}
 use Rattle.molecule.proofs.Touching.{Share, touch-in, touch-has}
-use Rattle.molecule.proofs.Components.{own-sub, own-all, link-in, link-wide, link-join, link-sym, low-in, component-self, components-mem, components-apart, components-connected, components-union}
+use Rattle.molecule.proofs.Components.{link-wide, link-join, link-sym, component-self, components-mem, components-apart, components-connected, components-union}
 use Rattle.molecule.proofs.Reached.{joins-sym}
 use Rattle.molecule.proofs.Trees.{accepted-tree}
 use Rattle.canonize.specs.Isomorphism.{AtomOf}
 use Rattle.search.specs.Pathway.{atomsOf, meets}
 use Rattle.search.specs.Joining.{Cover}
-use Rattle.search.proofs.Covers.{cover-mem, cover-has, apart-cover, sub-none, less-self}
+use Rattle.search.proofs.Covers.{cover-has, apart-cover, sub-none, less-self}
 
 module _ (r : Bytes) where
   -- ---- atoms
@@ -48,6 +48,7 @@ module _ (r : Bytes) where
   ends-share i j v (inr e) (inl f) = inr (inl (f ∙ sym e))
   ends-share i j v (inr e) (inr f) = inr (inr (f ∙ sym e))
 
+  -- and a shared atom is an end of both
   share-ends : (i j : ℕ) → Share r i j → (v : ℕ) × End i v × End j v
   share-ends i j (inl e) = (endA r i, inl refl, e)
   share-ends i j (inr e) = (endB r i, inr refl, e)
@@ -172,6 +173,7 @@ module _ (r : Bytes) where
 
   -- ---- all bonds
 
+  -- what a bond joins are its ends
   joins-from : (i u v : ℕ) → Joins r i u v → End i u
   joins-from i u v (inl q) = inl (q .0)
   joins-from i u v (inr q) = inr (q .1)
@@ -185,6 +187,7 @@ module _ (r : Bytes) where
   walk-links s o (along {v = x} {w = y} i p hi j) b c hb hc e f =
       link-join r (walk-links s o p b i hb hi e (joins-from i x y j)) (share-link s i c o hi hc (ends-share i c y (joins-to i x y j) f))
 
+  -- walks one after another, and back
   walk-join : {s u v w : ℕ} → Walk r s u v → Walk r s v w → Walk r s u w
   walk-join p stay = p
   walk-join p (along i q h j) = along i (walk-join p q) h j

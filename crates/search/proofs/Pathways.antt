@@ -6,7 +6,7 @@ use mathlib.Core.Logic.{_⊎_, inl, inr, _≢_, ⊎-elim}
 use mathlib.Core.List.{List, [], _∷_, _++_, flatMap, List·Memᴰ as Mem, List·Memᴰ·append-cases as mem-cases, List·Memᴰ·eq-of-singleton as mem-only, Memᴰ·append-left as mem-left, Memᴰ·append-right as mem-right}
 use Prim.Native.Nat.{ℕ, suc, _+_, _-_, _^_, _≤_, _<_}
 use native.Mathlib.Omega.{arith}
-use lib.Bits.{bitAnd, bitOr, and-self}
+use lib.Bits.{bitAnd, and-self}
 use lib.Dec.{eqb, ltb, leb}
 use lib.Pow.{pow-pos}
 use lib.ListN.{length, length-append}
@@ -19,7 +19,8 @@ use Rattle.molecule.specs.Lists.{Bytes}
 use Rattle.molecule.specs.Record.{bonds, allBonds}
 use Rattle.molecule.specs.Check.{accepted, check}
 use Rattle.molecule.specs.Touch.{components}
-use Rattle.molecule.specs.Connected.{Own, Connected}
+use Rattle.molecule.specs.Connected.{Connected}
+use Rattle.molecule.specs.Examples.{chain}
 use Rattle.molecule.proofs.Lists.{any-some}
 use Rattle.molecule.proofs.Components.{own-all}
 use Rattle.molecule.proofs.Accepted.{accepted-formed}
@@ -32,6 +33,7 @@ use Rattle.search.specs.State.{struck, inside, bigComponents, remove}
 use Rattle.search.specs.Series.{allowedFrom, allowed, seriesScore, IsLeastScore}
 use Rattle.search.specs.Pathway.{Join, find, assemble, grown, split, rebuilt, joinsFrom, joins, isPathwayAfter, isPathway, HasPathway}
 use Rattle.search.specs.Joining.{Within, after, Ready, EndsWith, Built, Pieces, Done}
+use Rattle.search.specs.Examples.{compute}
 use Rattle.search.proofs.Covers.{cover-mem, cover-apart, flat-mem, mem-flat, less-self}
 use Rattle.search.proofs.Tests.{and-both, any-has, any-find, after-append, joins-append, ends-append, joins-test}
 use Rattle.search.proofs.Fragments.{all-connected}
@@ -88,6 +90,7 @@ module _ (r : Bytes) (ms : List Pair) where
     in2 : inside big (pair ms m .h2) ≡ true
     further : allowedFrom r ms (suc m) (remove r ms big m) τ ≡ true
 
+  -- from the test
   allowed-first : (next m : ℕ) (big τ : List ℕ) → allowedFrom r ms next big (m ∷ τ) ≡ true → First m big τ
   unfolding allowedFrom
   allowed-first next m big τ e =
@@ -136,8 +139,8 @@ module _ (r : Bytes) (ms : List Pair) where
             )
 
     -- after the joins of a series every piece is ready; they, what the series saves, and the pieces are together as many as the bonds.
-    -- By induction on the series. No removal left: every piece is grown. A removal first: the joins of the rest leave the pieces after it ready,
-    -- h2 is ready because its label is h1's, and the joins that undo the removal are one for each part that it made but h1, which the saving pays
+    -- By induction on the series. No removal left: every piece is grown. A removal of size k first: the joins of the rest leave the pieces after it ready, and h2 too, since its label is h1's;
+    -- the joins that undo it are one more than the pieces that it adds, and the pieces after it have k bonds less, those of h2: with the k − 1 that it saves the count is the same
     series-done : (τ : List ℕ) (next : ℕ) (big pieces made : List ℕ) (w : ℕ) → Pieces r w pieces → Within big pieces → allowedFrom r ms next big τ ≡ true
         → Done r made pieces (joinsFrom r ms pieces τ) × (length (joinsFrom r ms pieces τ) + sumOf (λ m. sizeOf ms m - 1) τ + length pieces ≡ size w)
     unfolding joinsFrom
@@ -179,6 +182,7 @@ module _ (r : Bytes) (ms : List Pair) where
       some-bonds : 0 < bonds r
       some-bonds = let z : bonds r ≢ 0 = λ e. whole .some (ap (λ (n : ℕ). 2 ^ n - 1) e) in omega arith
 
+      -- the series from the root on
       root-done : (τ : List ℕ) → allowed r ms τ ≡ true
           → Done r [] (allBonds r ∷ []) (joins r ms τ) × (length (joins r ms τ) + sumOf (λ m. sizeOf ms m - 1) τ + 1 ≡ bonds r)
       unfolding joins allowed
@@ -244,6 +248,7 @@ module _ (r : Bytes) (ms : List Pair) where
 -- ---- demand 3: a record that check accepts, its own matches, an allowed series
 
 module _ (r : Bytes) (ok : check r ≡ accepted) where
+  -- 64 bonds or fewer
   few : bonds r ≤ 64
   few = accepted-formed r ok .sized .few
 
@@ -273,3 +278,13 @@ module _ (r : Bytes) (ok : check r ≡ accepted) where
       empty : (l : List Join) → length l ≡ 0 → l ≡ []
       empty [] h = refl
       empty (j ∷ l) h = absurd (omega arith)
+
+-- ---- worked: the chain of 4 with match 0 has a pathway of 2 joins, the chain of 7 with matches 6 and 8 one of 4
+
+four-has : HasPathway (chain 4) 2
+unfolding compute
+four-has = series-has (chain 4) refl (0 ∷ []) refl
+
+seven-has : HasPathway (chain 7) 4
+unfolding compute
+seven-has = series-has (chain 7) refl (6 ∷ 8 ∷ []) refl

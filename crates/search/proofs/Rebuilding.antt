@@ -2,8 +2,8 @@
 -- Assumes 64 bonds or fewer, and of the two fragments h1 and h2 that they are twins (M1).
 use mathlib.Core.Path.{_≡_, refl, sym, ap, subst, _∙_}
 use mathlib.Core.Logic.{_⊎_, inl, inr, _≢_, ⊎-elim}
-use mathlib.Core.List.{List, [], _∷_, _++_, flatMap, List·Memᴰ as Mem, List·Memᴰ·head as m-head, List·Memᴰ·tail as m-tail, List·Memᴰ·cases-cons as mem-cons, List·Memᴰ·not-nil as not-nil, List·Memᴰ·append-cases as mem-cases, List·Memᴰ·eq-of-singleton as mem-only, Memᴰ·append-left as mem-left, Memᴰ·append-right as mem-right}
-use Prim.Native.Nat.{ℕ, suc, _+_, _^_, _≤_, _<_}
+use mathlib.Core.List.{List, [], _∷_, _++_, flatMap, List·Memᴰ as Mem, List·Memᴰ·head as m-head, List·Memᴰ·cases-cons as mem-cons, List·Memᴰ·not-nil as not-nil, List·Memᴰ·append-cases as mem-cases, List·Memᴰ·eq-of-singleton as mem-only, Memᴰ·append-left as mem-left, Memᴰ·append-right as mem-right}
+use Prim.Native.Nat.{ℕ, suc, _+_, _^_, _≤_}
 use native.Mathlib.Omega.{arith}
 use lib.Bits.{bitOr, and-self}
 use lib.ListN.{length, length-append}
@@ -30,12 +30,15 @@ use Rattle.search.proofs.Building.{assemble-length, grown-length, built
 sub-apart : (a b s t : ℕ) → Disjoint a b → Sub s a → Sub t b → Disjoint s t
 sub-apart a b s t = sets (apart (v 0) (v 1) ∷ sub (v 2) (v 0) ∷ sub (v 3) (v 1) ∷ []) (apart (v 2) (v 3)) (a ∷ b ∷ s ∷ t ∷ []) tt
 
+-- likewise for one of them
 apart-sub : (a b t : ℕ) → Disjoint a b → Sub t b → Disjoint a t
 apart-sub a b t d h = sub-apart a b a t d (and-self a) h
 
+-- what is apart from two sets is apart from their union
 apart-or : (x s t : ℕ) → Disjoint x s → Disjoint x t → Disjoint x (bitOr s t)
 apart-or x s t = sets (apart (v 0) (v 1) ∷ apart (v 0) (v 2) ∷ []) (apart (v 0) (or (v 1) (v 2))) (x ∷ s ∷ t ∷ []) tt
 
+-- the union of two subsets is a subset
 or-sub : (p s t : ℕ) → Sub s p → Sub t p → Sub (bitOr s t) p
 or-sub p s t = sets (sub (v 1) (v 0) ∷ sub (v 2) (v 0) ∷ []) (sub (or (v 1) (v 2)) (v 0)) (p ∷ s ∷ t ∷ []) tt
 
@@ -46,6 +49,7 @@ less-or-left p s t = sets (apart (v 0) (v 2) ∷ []) (is (less (v 0) (or (v 1) (
 less-or-right : (p s t : ℕ) → Disjoint p s → diff p (bitOr s t) ≡ diff p t
 less-or-right p s t = sets (apart (v 0) (v 1) ∷ []) (is (less (v 0) (or (v 1) (v 2))) (less (v 0) (v 2))) (p ∷ s ∷ t ∷ []) tt
 
+-- a subset that is apart from s is left when s is taken away
 sub-other : (p s t : ℕ) → Sub t p → Disjoint s t → Sub t (diff p s)
 sub-other p s t = sets (sub (v 2) (v 0) ∷ apart (v 1) (v 2) ∷ []) (sub (v 2) (less (v 0) (v 1))) (p ∷ s ∷ t ∷ []) tt
 
@@ -93,6 +97,7 @@ module _ (r : Bytes) where
     still : (p t : ℕ) → Own r p → Connected r p → Disjoint p t → components r (diff p t) ≡ p ∷ []
     still p t o k d = ap (components r) (less-none p t d) ∙ components-one r few p o k
 
+    -- so as many pieces are left where nothing is struck
     still-length : (t w : ℕ) (l : List ℕ) → Pieces r w l → Disjoint w t → length (flatMap (λ p. components r (diff p t)) l) ≡ length l
     unfolding flatMap
     still-length t w [] h d = refl
@@ -150,6 +155,7 @@ module _ (r : Bytes) where
 
       -- where the pieces after it are ready, those before it can be put together
       module _ (w : ℕ) (pieces made : List ℕ) (h : Pieces r w pieces) (rdy : (x : ℕ) → Mem x (splitBy h1 h2 pieces) → Ready r made x) where
+        -- h1 is one of them
         ready1 : Ready r made h1
         ready1 = rdy h1 (mem-right (flatMap (leftOf h1 h2) pieces) (m-head refl))
 
@@ -161,6 +167,7 @@ module _ (r : Bytes) where
             go (inl e) = inl (sym (T .same-size) ∙ e)
             go (inr u) = inr (u .0, u .1, u .2 ∙ T .labels)
 
+        -- what is left of a piece: the record's bonds, connected and ready parts, which cover it
         left-own : (p : ℕ) → Mem p pieces → Own r (diff p (bitOr h1 h2))
         left-own p m = own-sub r (diff p (bitOr h1 h2)) p (diff-sub p (bitOr h1 h2)) (piece-own w pieces h p m)
 
@@ -182,6 +189,7 @@ module _ (r : Bytes) where
             (sub-other p h1 h2 s2 (T .apart), subst (λ (k : ℕ). Cover k (leftOf h1 h2 p)) (sym (diff-diff p h1 h2)) (left-cover p m))
             (λ x n. ⊎-elim (λ (e : x ≡ h2). subst (λ (k : ℕ). Connected r k × Ready r made k) (sym e) (T .other, ready2)) (λ (k : Mem x (leftOf h1 h2 p)). left-parts p m x k) (mem-cons n))
 
+        -- so every piece is ready: that one is made, and the others are as they were
         pub one-done : (p : ℕ) → Mem p pieces → Sub h1 p → Sub h2 p → Done r made pieces (assemble r h1 (h2 ∷ leftOf h1 h2 p))
         one-done p m s1 s2 =
             let js : List Join = assemble r h1 (h2 ∷ leftOf h1 h2 p) in

@@ -3,12 +3,11 @@ use mathlib.Core.Path.{_≡_, refl, sym, ap, _∙_}
 use mathlib.Core.Bool.{Bool, true, false, _&&_, true≢false, false≢true}
 use mathlib.Core.Logic.{_⊎_, inl, inr}
 use mathlib.Core.List.{List, [], _∷_, _++_, List·Memᴰ as Mem, List·Memᴰ·head as m-head, List·Memᴰ·tail as m-tail}
-use Prim.Native.Nat.{ℕ, zero, suc, _≤_, _<_}
+use Prim.Native.Nat.{ℕ, _≤_, _<_}
 use native.Mathlib.Omega.{arith}
 use native.Mathlib.Decide.{decLt}
 use lib.Bits.{bitAnd}
 use lib.Dec.{eqb}
-use lib.ListN.{length}
 use borrow.Author.Tests.{eq-eqb}
 use Rattle.bitset.specs.Bits.{size}
 use Rattle.bitset.proofs.Bools.{two, or-left, or-right}
@@ -67,6 +66,7 @@ module _ (r : Bytes) where
   after-keeps made [] x m = m
   after-keeps made (j ∷ js) x m = after-keeps (union j ∷ made) js x (m-tail m)
 
+  -- so what is ready before joins is ready after them
   pub ready-after : (made : List ℕ) (js : List Join) (s : ℕ) → Ready r made s → Ready r (after made js) s
   ready-after made js s h = ready-more made (after made js) s (after-keeps made js) h
 
@@ -75,15 +75,18 @@ module _ (r : Bytes) where
   after-append made [] ks = refl
   after-append made (j ∷ js) ks = after-append (union j ∷ made) js ks
 
+  -- lawful joins, and then lawful joins, are lawful together
   pub joins-append : (made : List ℕ) (js ks : List Join) → JoinsAfter r made js → JoinsAfter r (after made js) ks → JoinsAfter r made (js ++ ks)
   joins-append made [] ks a b = b
   joins-append made (j ∷ js) ks a b = (a .0, joins-append (union j ∷ made) js ks (a .1) b)
 
+  -- the last union is that of the later ones
   pub ends-append : (made : List ℕ) (js ks : List Join) (p : ℕ) → EndsWith r (after made js) ks p → EndsWith r made (js ++ ks) p
   ends-append made js ks p w = (w .0, after-append made js ks ∙ w .1)
 
   -- ---- the tests of a pathway
 
+  -- a set that is ready passes the test
   pub ready-test : (made : List ℕ) (s : ℕ) → Ready r made s → ready r made s ≡ true
   unfolding ready
   ready-test made s (inl e) = or-left (eqb (size s) 1) (any (λ u. same (label r u) (label r s)) made) (eq-eqb (size s) 1 e)

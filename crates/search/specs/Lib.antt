@@ -5,5 +5,6 @@ pub mod Memo
 pub mod Search
 pub mod Series
 pub mod Pathway
+pub mod Examples
 pub mod Joining
 pub mod Answer
