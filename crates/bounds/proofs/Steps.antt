@@ -164,7 +164,7 @@ split-apart [] p h = tt
 split-apart (a ∷ l) p h =
     (λ b i. sets (sub (v 1) (less (v 2) (v 0)) ∷ []) (apart (v 0) (v 1)) (a ∷ b ∷ p ∷ []) tt (split-mem l (diff p a) b (h .2) i .0), split-apart l (diff p a) (h .2))
 
-apart-append : (l m : List ℕ) → Apart l → Apart m → ((a b : ℕ) → List·Memᴰ a l → List·Memᴰ b m → Disjoint a b) → Apart (l ++ m)
+pub apart-append : (l m : List ℕ) → Apart l → Apart m → ((a b : ℕ) → List·Memᴰ a l → List·Memᴰ b m → Disjoint a b) → Apart (l ++ m)
 apart-append [] m x y d = y
 apart-append (a ∷ l) m x y d =
     (λ b i. ⊎-elim (λ t. x .0 b t) (λ t. d a b (List·Memᴰ·head refl) t) (List·Memᴰ·append-cases l i), apart-append l m (x .1) y (λ c b i j. d c b (List·Memᴰ·tail i) j))
@@ -187,7 +187,7 @@ apart-perm (List·Permᴰ·swap {a = x} {b = y} {a′ = x′} {b′ = y′} {l =
     (λ q i. ⊎-elim (λ (h : q ≡ y′). rw (h, ← e, ← g) (apart-sym x y (a .0 y (List·Memᴰ·head refl)))) (λ t. rw (← g) (a .1 .0 q t)) (List·Memᴰ·cases-cons i), (λ q i. rw (← e) (a .0 q (List·Memᴰ·tail i)), a .1 .1))
 apart-perm (List·Permᴰ·trans d e) a = apart-perm e (apart-perm d a)
 
-apart-big : (l : List ℕ) → Apart l → Apart (big l)
+pub apart-big : (l : List ℕ) → Apart l → Apart (big l)
 apart-big [] a = tt
 apart-big (b ∷ l) a = let ih = apart-big l (a .1) in ⊎-elim (λ w. rw (w .1) (λ q i. a .0 q (mem-big l q i), ih)) (λ w. rw (w .1) ih) (big-cases b l)
 
