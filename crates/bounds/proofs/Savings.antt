@@ -37,6 +37,7 @@ mem-perm (List·Permᴰ·trans d e) i = mem-perm e (mem-perm d i)
 
 -- ---- those of two or more bonds
 
+-- by the size of the first: it stays or is dropped
 pub big-cases : (a : ℕ) (l : List ℕ) → ((2 ≤ size a) × (big (a ∷ l) ≡ a ∷ big l)) ⊎ ((size a ≤ 1) × (big (a ∷ l) ≡ big l))
 big-cases a l = go (leb 2 (size a)) refl
   where
@@ -55,6 +56,7 @@ big-mem (b ∷ l) a i = go (big-cases b l) (List·Memᴰ·cases-cons i) (big-mem
     go (inr w) (inl e) r = inr (rw e (w .0))
     go (inr w) (inr t) r = rw (w .1) (r t)
 
+-- one of these is a part
 pub mem-big : (l : List ℕ) (a : ℕ) → List·Memᴰ a (big l) → List·Memᴰ a l
 mem-big [] a i = i
 mem-big (b ∷ l) a i = go (big-cases b l) i (mem-big l a)
@@ -63,6 +65,7 @@ mem-big (b ∷ l) a i = go (big-cases b l) i (mem-big l a)
     go (inl w) m r = ⊎-elim (λ e. List·Memᴰ·head e) (λ t. List·Memᴰ·tail (r t)) (List·Memᴰ·cases-cons (rw (w .1) at m))
     go (inr w) m r = List·Memᴰ·tail (r (rw (w .1) at m))
 
+-- part by part
 pub big-append : (l m : List ℕ) → big (l ++ m) ≡ big l ++ big m
 big-append [] m = refl
 big-append (a ∷ l) m = go (leb 2 (size a)) (big-append l m)
@@ -73,6 +76,7 @@ big-append (a ∷ l) m = go (leb 2 (size a)) (big-append l m)
 
 -- ---- parts
 
+-- the sizes of the parts sum to the size
 pub split-size : (l : List ℕ) (p : ℕ) → Split p l → sumOf size l ≡ size p
 split-size [] p h = omega (arith, ap size h, size-empty)
 split-size (a ∷ l) p h = omega (arith, split-size l (diff p a) (h .2), size-minus p a (h .1))
@@ -93,6 +97,7 @@ and-split p a W h =
       ap size (sets (sub (v 1) (v 0) ∷ []) (is (and (and (v 0) (v 2)) (v 1)) (and (v 1) (v 2))) (p ∷ a ∷ W ∷ []) tt h),
     )
 
+-- counts within F and W: of a smaller set, and of a part, no more
 pub and-sub : (p F W : ℕ) → Sub F W → size (bitAnd p F) ≤ size (bitAnd p W)
 and-sub p F W h = size-mono (bitAnd p F) (bitAnd p W) (sets (sub (v 1) (v 2) ∷ []) (sub (and (v 0) (v 1)) (and (v 0) (v 2))) (p ∷ F ∷ W ∷ []) tt h)
 
@@ -111,6 +116,7 @@ dec-either (yes a) d = yes (inl a)
 dec-either (no n) (yes b) = yes (inr b)
 dec-either (no n) (no m) = no (⊎-elim n m)
 
+-- whether a piece is small is decided
 dec-small : (k F W p : ℕ) → Dec (Small k F W p)
 dec-small k F W p = go (dec-both (decLt 0 (size p)) (dec-either (dec-both (decLt (size p) k) (ℕ-discrete (bitAnd p W) p)) (dec-both (ℕ-discrete (size p) k) (ℕ-discrete (bitAnd p F) p))))
   where
@@ -120,7 +126,7 @@ dec-small k F W p = go (dec-both (decLt 0 (size p)) (dec-either (dec-both (decLt
 
 -- ---- what a piece can save
 
--- more of the chain L: M, with j entries more, knows the sizes of the small ones of P; these entries and what the parts save, P pays
+-- the chain L grows, by `more` entries, to one that knows the sizes of the small pieces of P; what P can save pays for these and for what is spent
 pub record Served (k F W : ℕ) (L : List ℕ) (P : List ℕ) (spent : ℕ) : Type 0 where
   pub chain : List ℕ
   pub more : ℕ
@@ -129,6 +135,7 @@ pub record Served (k F W : ℕ) (L : List ℕ) (P : List ℕ) (spent : ℕ) : Ty
   pub pays : more + spent ≤ sumOf (gain k F W) P
 
 module _ (k F W : ℕ) (two : 2 ≤ k) (within : Sub F W) where
+  -- a single bond saves nothing
   pub gain-few : (p : ℕ) → size p ≤ 1 → gain k F W p ≡ 0
   gain-few p h = go (size (bitAnd p W)) refl
     where
@@ -138,9 +145,11 @@ module _ (k F W : ℕ) (two : 2 ≤ k) (within : Sub F W) where
           let o : size (bitAnd p W) ≡ 1 = omega (arith, and-le p W) in
           rw o (saving-one k two (size (bitAnd p F)) (omega (arith, and-sub p F W within)))
 
+  -- a small piece lies within W and has k bonds at most
   pub small-in : (p : ℕ) → Small k F W p → Sub p W × (size p ≤ k)
   small-in p s = ⊎-elim (λ w. (w .1, omega arith)) (λ w. (sub-trans p F W (w .1) within, omega arith)) (s .fits)
 
+  -- a small piece saves all its bonds but one
   pub small-gain : (p : ℕ) → Small k F W p → gain k F W p + 1 ≡ size p
   small-gain p s =
       ⊎-elim
@@ -148,6 +157,7 @@ module _ (k F W : ℕ) (two : 2 ≤ k) (within : Sub F W) where
       (λ w. rw (small-in p s .0, w .1, w .0) (saving-full k two))
       (s .fits)
 
+  -- a part of a small piece is small
   pub small-part : (p a : ℕ) → Small k F W p → Sub a p → 0 < size a → Small k F W a
   small-part p a s h o = record { some = o; fits = ⊎-elim few full (s .fits) }
     where
@@ -167,6 +177,7 @@ module _ (k F W : ℕ) (two : 2 ≤ k) (within : Sub F W) where
       rw (← and-split p a W h, ← and-split p a F h)
       (saving-add k two (size (bitAnd a W)) (size (bitAnd (diff p a) W)) (size (bitAnd a F)) (size (bitAnd (diff p a) F)) (and-sub a F W within) (and-sub (diff p a) F W within))
 
+  -- and so for any number of parts
   pub gain-split : (l : List ℕ) (p : ℕ) → Split p l → sumOf (gain k F W) l ≤ gain k F W p
   gain-split [] p h = omega arith
   gain-split (a ∷ l) p h = omega (arith, gain-add p a (h .1), gain-split l (diff p a) (h .2))
@@ -178,6 +189,7 @@ module _ (k F W : ℕ) (two : 2 ≤ k) (within : Sub F W) where
 
 -- ---- one piece: its size is a sumOf over its parts
 
+-- the partial sums of the sizes of the parts of p are entries, one for each part after the first; the last is the size of p
 joins : (L : List ℕ) (l : List ℕ) (p a : ℕ) → Chain L → Split p (a ∷ l) → ((b : ℕ) → List·Memᴰ b (a ∷ l) → Known L (size b))
     → (M : List ℕ) × Longer L (length l) M × Known M (size p)
 joins L [] p a c h kn =
@@ -195,6 +207,7 @@ pub first-left : {P Q : List ℕ} (m : Removal) → Step P m Q → List·Memᴰ 
 first-left m st = mem-perm (Permᴰ·symm (st .left)) (List·Memᴰ·head refl)
 
 module _ (k F W : ℕ) (two : 2 ≤ k) (within : Sub F W) where
+  -- a small piece takes one entry for each part but one, which it pays as all are small (`small-sum`). Any other takes none, and B1 pays for its parts
   serve-one : (L : List ℕ) (p : ℕ) (l : List ℕ) → Chain L → Split p l → Serves k F W L l → Served k F W L (p ∷ []) (sumOf (gain k F W) l)
   serve-one L p l c h sv = go l h sv (dec-small k F W p)
     where
@@ -220,6 +233,7 @@ module _ (k F W : ℕ) (two : 2 ≤ k) (within : Sub F W) where
 
   -- ---- all pieces, one after the other
 
+  -- the parts of each piece are known, so the pieces can be
   serve-all : (L : List ℕ) (P : List ℕ) (ls : List (List ℕ)) → Chain L → Splits P ls → Serves k F W L (flatten ls) → Served k F W L P (sumOf (gain k F W) (flatten ls))
   unfolding flatten
   serve-all L [] [] c h sv = record { chain = L; more = 0; longer = longer-none L c; serves = λ q i s. absurd (List·Memᴰ·not-nil i); pays = omega arith }
@@ -238,17 +252,20 @@ module _ (k F W : ℕ) (two : 2 ≤ k) (within : Sub F W) where
 
   -- ---- single bonds are dropped: they save nothing, and 1 needs no entry
 
+  -- dropping them changes no sum of what can be saved
   sum-big : (l : List ℕ) → sumOf (gain k F W) (big l) ≡ sumOf (gain k F W) l
   sum-big [] = refl
   sum-big (a ∷ l) =
       let ih = sum-big l in
       ⊎-elim (λ w. rw (w .1) (omega (arith, ih))) (λ w. rw (w .1) (omega (arith, ih, gain-few k F W two within a (w .0)))) (big-cases a l)
 
+  -- and what knows the sizes of those kept knows all
   serves-big : (L l : List ℕ) → Serves k F W L (big l) → Serves k F W L l
   serves-big L l sv p i s = ⊎-elim (λ m. sv p m s) (λ o. inl (omega (arith, s .some))) (big-mem l p i)
 
   -- ---- one removal
 
+  -- a fragment that fits is small, the first and the second of a removal
   pub fragment-small : (h : ℕ) → 2 ≤ size h → size h ≤ k → Sub h W → (size h ≡ k → Sub h F) → Small k F W h
   fragment-small h o m w f = record { some = omega arith; fits = go (decLt (size h) k) }
     where
@@ -287,6 +304,7 @@ module _ (k F W : ℕ) (two : 2 ≤ k) (within : Sub F W) where
 
   -- ---- no removal
 
+  -- where nothing is removed, a small piece of s bonds takes the s - 1 entries 2, 3, .., s
   serve-none : (L P : List ℕ) → Chain L → Served k F W L P 0
   serve-none L [] c = record { chain = L; more = 0; longer = longer-none L c; serves = λ q i s. absurd (List·Memᴰ·not-nil i); pays = omega arith }
   serve-none L (p ∷ P) c = go (serve-none L P c) (dec-small k F W p)
@@ -310,8 +328,9 @@ module _ (k F W : ℕ) (two : 2 ≤ k) (within : Sub F W) where
             pays = omega (arith, r .pays, small-gain k F W two within p s);
           }
 
-  -- ---- the lemma: a chain for the small pieces, and the pieces pay for it and for what the series saves
+  -- ---- the lemma
 
+  -- a chain for P, grown from no entries, where P pays for it and for what the series saves
   pub series-serves : {P : List ℕ} {τ : List Removal} → Series P τ → AllFit k F W τ → Served k F W [] P (savings τ)
   series-serves {P} done f = serve-none [] P tt
   series-serves (next {P = P} {Q = Q} {m = m} st r) f =
@@ -325,11 +344,15 @@ module _ (k F W : ℕ) (two : 2 ≤ k) (within : Sub F W) where
         pays = omega (arith, a .pays, b .pays);
       }
 
+  -- The lemma. There is a chain that knows the size of every small piece of P, and its length with what the series saves is at most
+  -- what the pieces of P can save. By induction on the series: the chain for what a removal leaves grows to one for the pieces before it
+  -- (`step-serves`), where the second fragment, being small, pays for what the removal saves.
   pub savings-chain : {P : List ℕ} {τ : List Removal} → Series P τ → AllFit k F W τ
       → (L : List ℕ) × Chain L × Serves k F W L P × (savings τ + length L ≤ sumOf (gain k F W) P)
   savings-chain s f = let r = series-serves s f in (r .chain, r .longer .chain, r .serves, omega (arith, r .pays, r .longer .by))
 
-  -- S3: a series that starts with a removal of size k saves at least c k less, for every lower bound c of chains
+  -- S3: a series that starts with a removal of size k saves at most what the pieces can save less c k, for every lower bound c of
+  -- chains. After that removal its first fragment is a small piece of k bonds, so k is in the chain, which has c k entries or more.
   pub savings-first : (c : ℕ → ℕ) → LowerBound c → {P : List ℕ} {m : Removal} {τ : List Removal} → Series P (m ∷ τ) → AllFit k F W (m ∷ τ) → size (m .first) ≡ k
       → savings (m ∷ τ) + c k ≤ sumOf (gain k F W) P
   savings-first c b {m = m} (next st r) f e =
