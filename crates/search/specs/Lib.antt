@@ -4,5 +4,6 @@ pub mod State
 pub mod Memo
 pub mod Search
 pub mod Series
+pub mod Claims
 pub mod Pathway
 pub mod Answer

@@ -1,0 +1,6 @@
+-- The theory of the search.
+pub mod Lists
+pub mod Parts
+pub mod Refine
+pub mod TrailClaim
+pub mod Counting
