@@ -4,3 +4,5 @@ pub mod Parts
 pub mod Refine
 pub mod TrailClaim
 pub mod Counting
+pub mod Bridge
+pub mod Least

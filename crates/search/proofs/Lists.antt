@@ -1,9 +1,9 @@
--- Lists of pieces and of numbers: what lies inside, what a flat list holds, the first number that passes a test, sets that are apart. Assumes nothing.
+-- Lists of pieces and of numbers: what lies inside, flat lists, sums, the first number that passes a test, sets that are apart. Assumes nothing.
 use mathlib.Core.Path.{_≡_, refl, sym, ap, _∙_}
 use mathlib.Core.Bool.{Bool, true, false, true≢false}
 use mathlib.Core.Logic.{_⊎_, inl, inr, ⊎-elim}
 use mathlib.Core.List.{List, [], _∷_, _++_, flatMap, List·Memᴰ as Mem, List·Memᴰ·cases-cons as mem-cons, List·Memᴰ·not-nil as not-nil, List·Memᴰ·head as m-head, List·Memᴰ·tail as m-tail, List·Memᴰ·append-cases as mem-cases, Memᴰ·append-left as mem-left, Memᴰ·append-right as mem-right}
-use Prim.Native.Nat.{ℕ, zero, suc, _≤_, _<_}
+use Prim.Native.Nat.{ℕ, zero, suc, _+_, _≤_, _<_}
 use native.Mathlib.Omega.{arith}
 use native.Mathlib.Decide.{ℕ-discrete}
 use lib.Bits.{bitAnd}
@@ -15,9 +15,12 @@ use Rattle.bitset.proofs.Decide.{sets, v, sub, apart}
 use Rattle.molecule.specs.Lists.{firstFrom, filter}
 use Rattle.molecule.specs.Connected.{Apart}
 use Rattle.molecule.proofs.Lists.{any-some, any-none}
-use Rattle.canonize.proofs.Lists.{keep-mem}
+use Rattle.bounds.specs.Numbers.{sumOf}
+use Rattle.bounds.specs.Removals.{Inside, Within}
+use Rattle.bounds.proofs.Numbers.{sum-append}
+use Rattle.bounds.proofs.Steps.{apart-append}
 use Rattle.search.specs.State.{inside}
-use Rattle.search.specs.Claims.{Inside, Within, Refines}
+use Rattle.search.specs.Claims.{Refines}
 
 -- ---- inside a piece
 
@@ -63,6 +66,21 @@ module _ {A B : Type 0} (g : A → List B) where
       go (inl e) ih = mem-left (flatMap g P) (rw e at j)
       go (inr t) ih = mem-right (g q) (ih t)
 
+-- ---- sums
+
+pub sum-filter : (f : ℕ → ℕ) (p : ℕ → Bool) (l : List ℕ) → sumOf f (filter p l) ≤ sumOf f l
+sum-filter f p [] = omega arith
+sum-filter f p (x ∷ l) = go (two (p x)) (sum-filter f p l)
+  where
+    go : (p x ≡ true) ⊎ (p x ≡ false) → sumOf f (filter p l) ≤ sumOf f l → sumOf f (filter p (x ∷ l)) ≤ f x + sumOf f l
+    go (inl e) ih = rw e (omega arith)
+    go (inr e) ih = rw e (omega arith)
+
+pub sum-flat : (f : ℕ → ℕ) (g : ℕ → List ℕ) (P : List ℕ) → ((p : ℕ) → Mem p P → sumOf f (g p) ≤ f p) → sumOf f (flatMap g P) ≤ sumOf f P
+unfolding flatMap
+sum-flat f g [] h = omega arith
+sum-flat f g (p ∷ P) h = omega (arith, sum-append f (g p) (flatMap g P), h p (m-head refl), sum-flat f g P (λ q i. h q (m-tail i)))
+
 -- ---- the first number that passes a test: none before it passes
 
 pub from-before : (p : ℕ → Bool) (k f j : ℕ) → k ≤ j → j < firstFrom p k f → p j ≡ false
@@ -76,18 +94,6 @@ from-before p k (suc f) j a b = go (two (p k)) (ℕ-discrete j k) (from-before p
     go (inr e) (no d) ih = ih (omega arith) (rw (e, firstFrom) at b)
 
 -- ---- sets that are apart
-
-pub apart-append : (l m : List ℕ) → Apart l → Apart m → ((a b : ℕ) → Mem a l → Mem b m → Disjoint a b) → Apart (l ++ m)
-apart-append [] m x y d = y
-apart-append (a ∷ l) m x y d = (λ b i. ⊎-elim (x .0 b) (d a b (m-head refl)) (mem-cases l i), apart-append l m (x .1) y (λ c b i j. d c b (m-tail i) j))
-
-pub apart-filter : (p : ℕ → Bool) (l : List ℕ) → Apart l → Apart (filter p l)
-apart-filter p [] a = tt
-apart-filter p (b ∷ l) a = go (two (p b)) (apart-filter p l (a .1))
-  where
-    go : (p b ≡ true) ⊎ (p b ≡ false) → Apart (filter p l) → Apart (filter p (b ∷ l))
-    go (inl e) ih = rw e (λ q i. a .0 q (keep-mem p l i .0), ih)
-    go (inr e) ih = rw e ih
 
 apart-parts : (p q c d : ℕ) → Disjoint p q → Sub c p → Sub d q → Disjoint c d
 apart-parts p q c d = sets (apart (v 0) (v 1) ∷ sub (v 2) (v 0) ∷ sub (v 3) (v 1) ∷ []) (apart (v 2) (v 3)) (p ∷ q ∷ c ∷ d ∷ []) tt

@@ -22,9 +22,10 @@ use Rattle.canonize.proofs.Lists.{keep-mem, keep-intro}
 use Rattle.canonize.proofs.OfRecords.{numbers-bounds, numbers-mem}
 use Rattle.matches.specs.Table.{Pair, pair, sizeOf}
 use Rattle.matches.specs.Laws.{Laws}
+use Rattle.bounds.specs.Removals.{Inside, Within}
 use Rattle.search.specs.State.{struck, inside, bigComponents, removable, maskOf, keep, remove}
 use Rattle.search.specs.Series.{allowedFrom}
-use Rattle.search.specs.Claims.{Inside, Within, Refines, Serves, Removable, Allows}
+use Rattle.search.specs.Claims.{Refines, Serves, Removable, Allows}
 use Rattle.search.proofs.Lists.{inside-true, true-inside, inside-refines, refines-within, flat-mem, mem-flat}
 use Rattle.search.proofs.Parts.{big-is, big-covers}
 

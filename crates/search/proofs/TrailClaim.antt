@@ -14,12 +14,13 @@ use Rattle.canonize.proofs.Lists.{keep-mem}
 use Rattle.matches.specs.Table.{Pair, sizeOf}
 use Rattle.bounds.specs.Numbers.{maxOf, ceilLog2}
 use Rattle.bounds.specs.Bounds.{leastSize}
+use Rattle.bounds.specs.Removals.{Within}
 use Rattle.search.specs.Setting.{Setting, hasMatchableEdges}
 use Rattle.search.specs.State.{State, root, removable, maskOf, remove, child}
 use Rattle.search.specs.Memo.{Memo, goes, stopped, full}
 use Rattle.search.specs.Search.{Run, Outcome, answers, halts, lower, intStops, ask, tried, children, branch, counted, visit, search}
 use Rattle.search.specs.Series.{allowed, seriesScore}
-use Rattle.search.specs.Claims.{Within, Refines, Removable, Allows, heldOf, Holds, Trail}
+use Rattle.search.specs.Claims.{Refines, Removable, Allows, heldOf, Holds, Trail}
 use Rattle.search.proofs.Lists.{refines-within}
 use Rattle.search.proofs.Refine.{one-within, removable-mem, allows-allowed, remove-within, remove-refines, allows-refines, keep-refines}
 
@@ -46,7 +47,11 @@ tried-removable r ms setting room s best m i = removable-mem r ms (s .pieces) (s
     go (inr e) = rw (e, tried) at i
 
 module _ (r : Bytes) (ok : check r ≡ accepted) (ms : List Pair) where
-  -- a child's pieces hold bonds of the record
+  -- the root's pieces and a child's hold bonds of the record
+  pub root-within : Within (allBonds r) (root r ms .pieces)
+  unfolding root
+  root-within = one-within (allBonds r)
+
   pub child-within : (s : State) (held : List ℕ) (m : ℕ) → Within (allBonds r) (s .pieces) → Refines held (s .pieces) → Removable ms (s .pieces) (s .next) m
       → Within (allBonds r) (child r ms s held m .pieces)
   unfolding child
@@ -140,10 +145,6 @@ module _ (r : Bytes) (ok : check r ≡ accepted) (ms : List Pair) where
     visit-answers f s run a t run′ W e =
         let w : Trail r ms s a t = holds-at (λ a t run. Trail r ms s a t) (visit r ms setting room f s run) a t run′ (visit-trail f s run W) e in
         (w, omega (arith, w .scores))
-
-    pub root-within : Within (allBonds r) (root r ms .pieces)
-    unfolding root
-    root-within = one-within (allBonds r)
 
     -- V1 of the search, in words
     pub search-series : (a : ℕ) (t : List ℕ) (run : Run) → search r ms setting room ≡ answers a t run → Allows r ms 0 (allBonds r ∷ []) t × (a ≡ seriesScore r ms t)

@@ -11,16 +11,10 @@ use Rattle.molecule.specs.Record.{bonds, allBonds}
 use Rattle.molecule.specs.Connected.{Connected, Apart}
 use Rattle.matches.specs.Table.{Pair, pair, sizeOf}
 use Rattle.bounds.specs.Numbers.{sumOf}
+use Rattle.bounds.specs.Removals.{Inside, Within}
 use Rattle.search.specs.Setting.{Setting, hasMemo}
 use Rattle.search.specs.State.{State, removable, maskOf, keep, remove}
 use Rattle.search.specs.Search.{Run, Outcome, answers, halts}
-
--- h lies in one piece; every piece lies in U
-abbrev pub Inside : ℕ → List ℕ → Type 0
-Inside h P = (p : ℕ) × List·Memᴰ p P × Sub h p
-
-abbrev pub Within : ℕ → List ℕ → Type 0
-Within U P = (p : ℕ) → List·Memᴰ p P → Sub p U
 
 -- every piece of the first list lies in one of the second
 abbrev pub Refines : List ℕ → List ℕ → Type 0
