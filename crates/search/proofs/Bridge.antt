@@ -1,13 +1,13 @@
 -- The bridge to the theory of bounds: removing a match is a Step there, an allowed series is a Series, and so both bounds hold of it.
 -- Of an accepted record and the laws of its matches.
-use mathlib.Core.Path.{_≡_, refl, sym, ap, ap₂, _∙_}
-use mathlib.Core.Logic.{_⊎_, ⊎-elim}
+use mathlib.Core.Path.{_≡_, refl, sym, ap, _∙_}
+use mathlib.Core.Logic.{⊎-elim}
 use mathlib.Core.List.{List, [], _∷_, _++_, map, flatMap, flatten, List·Memᴰ as Mem, List·Memᴰ·cases-cons as mem-cons, List·Memᴰ·head as m-head, List·Memᴰ·tail as m-tail, List·Permᴰ·cons as p-cons, List·Permᴰ·trans as p-trans, Permᴰ·middle as perm-middle, Permᴰ·append-nil as perm-append-nil}
 use Prim.Native.Nat.{ℕ, suc, _+_, _-_, _≤_, _<_}
 use native.Mathlib.Omega.{arith}
 use lib.Bits.{bitAnd}
 use lib.ListN.{length}
-use Rattle.bitset.specs.Bits.{Sub, diff, size}
+use Rattle.bitset.specs.Bits.{diff, size}
 use Rattle.bitset.proofs.Laws.{sub-trans, diff-diff}
 use Rattle.molecule.specs.Lists.{Bytes}
 use Rattle.molecule.specs.Record.{allBonds}
@@ -16,9 +16,9 @@ use Rattle.molecule.specs.Check.{accepted, check}
 use Rattle.molecule.specs.Connected.{Apart}
 use Rattle.matches.specs.Table.{Pair, pair, sizeOf}
 use Rattle.matches.specs.Laws.{Laws}
-use Rattle.bounds.specs.Numbers.{sumOf, ceilLog2}
+use Rattle.bounds.specs.Numbers.{ceilLog2}
 use Rattle.bounds.specs.Bounds.{intBound, usableEdgesBound}
-use Rattle.bounds.specs.Removals.{big, Split, Inside, Within, Removal, Step, Series, savings, Falls, Fits, AllFit}
+use Rattle.bounds.specs.Removals.{big, Within, Removal, Step, Series, savings, Falls, AllFit}
 use Rattle.bounds.specs.Removals.Series.{done, next}
 use Rattle.bounds.proofs.ChainLaws.{log-bound}
 use Rattle.bounds.proofs.Savings.{big-append}

@@ -12,7 +12,6 @@ use Rattle.bitset.proofs.Laws.{size-mono, size-first}
 use Rattle.molecule.specs.Lists.{Bytes}
 use Rattle.molecule.specs.Record.{bonds, allBonds}
 use Rattle.molecule.specs.Check.{accepted, check}
-use Rattle.molecule.specs.Connected.{Apart}
 use Rattle.molecule.proofs.Components.{own-all}
 use Rattle.canonize.proofs.Lists.{keep-intro}
 use Rattle.matches.specs.Table.{Pair, pair, sizeOf}
@@ -22,13 +21,13 @@ use Rattle.bounds.specs.Bounds.{intBound, usableEdgesBound, leftOut, leastSize}
 use Rattle.bounds.specs.Removals.{Step}
 use Rattle.bounds.proofs.Steps.{step-apart}
 use Rattle.search.specs.Setting.{Setting, hasInt, hasMatchableEdges, hasMemo}
-use Rattle.search.specs.State.{State, root, removable, maskOf, keep, remove, child}
+use Rattle.search.specs.State.{State, root, removable, maskOf, remove, child}
 use Rattle.search.specs.Memo.{Entry, goes}
 use Rattle.search.specs.Search.{Run, Outcome, answers, halts, lower, intStops, ask, tried, children, branch, counted, visit, search}
 use Rattle.search.specs.Series.{allowed, seriesScore, IsLeastScore}
 use Rattle.search.specs.Claims.{Removable, Allows, saved, Inv, heldOf, Holds, Bounded}
 use Rattle.search.proofs.Lists.{refines-within, from-before}
-use Rattle.search.proofs.Refine.{mem-removable, allowed-allows, keep-refines, letting-go}
+use Rattle.search.proofs.Refine.{one-apart, mem-removable, allowed-allows, keep-refines, letting-go}
 use Rattle.search.proofs.TrailClaim.{holds-at, tried-removable, child-within, root-within, visit-answers, search-trail}
 use Rattle.search.proofs.Bridge.{removal, keep-apart, remove-step, int-holds, usable-holds}
 
@@ -79,7 +78,7 @@ module _ (r : Bytes) (ok : check r ≡ accepted) (ms : List Pair) (M : Laws r ms
   pub root-inv : Inv r ms (root r ms)
   unfolding root sizeOf
   root-inv = record {
-    apart = (λ q i. absurd (not-nil i), tt);
+    apart = one-apart (allBonds r);
     within = root-within r ok ms;
     most = λ m l i. omega (arith, size-mono (pair ms m .h1) (allBonds r) (own-all r (pair ms m .h1) (M .twins m i .one-own)), size-first (bonds r));
   }

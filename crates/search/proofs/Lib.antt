@@ -1,8 +1,12 @@
--- The theory of the search.
+-- The theory of the search. Score has what demand 3 claims of an answer; Ends and Numbers have what code asks of a state.
 pub mod Lists
 pub mod Parts
 pub mod Refine
 pub mod TrailClaim
-pub mod Counting
 pub mod Bridge
 pub mod Least
+pub mod LeastScore
+pub mod Ends
+pub mod Numbers
+pub mod Counting
+pub mod Score

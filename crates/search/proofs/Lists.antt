@@ -1,7 +1,7 @@
 -- Lists of pieces and of numbers: what lies inside, flat lists, sums, the first number that passes a test, sets that are apart. Assumes nothing.
 use mathlib.Core.Path.{_≡_, refl, sym, ap, _∙_}
 use mathlib.Core.Bool.{Bool, true, false, true≢false}
-use mathlib.Core.Logic.{_⊎_, inl, inr, ⊎-elim}
+use mathlib.Core.Logic.{_⊎_, inl, inr}
 use mathlib.Core.List.{List, [], _∷_, _++_, flatMap, List·Memᴰ as Mem, List·Memᴰ·cases-cons as mem-cons, List·Memᴰ·not-nil as not-nil, List·Memᴰ·head as m-head, List·Memᴰ·tail as m-tail, List·Memᴰ·append-cases as mem-cases, Memᴰ·append-left as mem-left, Memᴰ·append-right as mem-right}
 use Prim.Native.Nat.{ℕ, zero, suc, _+_, _≤_, _<_}
 use native.Mathlib.Omega.{arith}

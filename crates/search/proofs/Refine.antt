@@ -10,7 +10,7 @@ use lib.Bits.{bitAnd, and-self}
 use lib.Dec.{leb, ltb, eqb}
 use lib.ListN.{length}
 use borrow.Author.Tests.{leb-true, ltb-true, le-leb, lt-ltb, eq-eqb}
-use Rattle.bitset.specs.Bits.{bit, Sub, diff, size, Ascending}
+use Rattle.bitset.specs.Bits.{bit, Sub, diff, Ascending}
 use Rattle.bitset.proofs.Bools.{and-true}
 use Rattle.bitset.proofs.Laws.{sub-trans, or-cases, unions-one, unions-of}
 use Rattle.bitset.proofs.Members.{sub-of, or-left-in, or-right-in, diff-sub}
@@ -18,6 +18,7 @@ use Rattle.bitset.proofs.Decide.{sets, v, and, less, or, sub}
 use Rattle.molecule.specs.Lists.{Bytes, numbersFrom, filter}
 use Rattle.molecule.specs.Record.{allBonds}
 use Rattle.molecule.specs.Check.{accepted, check}
+use Rattle.molecule.specs.Connected.{Apart}
 use Rattle.canonize.proofs.Lists.{keep-mem, keep-intro}
 use Rattle.canonize.proofs.OfRecords.{numbers-bounds, numbers-mem}
 use Rattle.matches.specs.Table.{Pair, pair, sizeOf}
@@ -58,9 +59,12 @@ pub second-struck : (ms : List Pair) (m : ℕ) → Sub (pair ms m .h2) (struck m
 unfolding struck
 second-struck ms m = sets [] (sub (v 1) (or (v 0) (v 1))) (pair ms m .h1 ∷ pair ms m .h2 ∷ []) tt
 
--- all bonds, as the root's pieces
+-- one piece
 pub one-within : (U : ℕ) → Within U (U ∷ [])
 one-within U p i = let e : p ≡ U = mem-one i in rw e (and-self U)
+
+pub one-apart : (U : ℕ) → Apart (U ∷ [])
+one-apart U = (λ q i. absurd (not-nil i), tt)
 
 both-true : (a b : Bool) → a ≡ true → b ≡ true → (a && b) ≡ true
 both-true a b e f = rw (e, f)
@@ -145,7 +149,7 @@ module _ (r : Bytes) (ms : List Pair) where
 
 module _ (r : Bytes) (ok : check r ≡ accepted) (ms : List Pair) where
   -- pieces only shrink
-  pub remove-shrinks : (P : List ℕ) (m : ℕ) → Within (allBonds r) P → Inside (pair ms m .h1) P → Refines (remove r ms P m) P
+  remove-shrinks : (P : List ℕ) (m : ℕ) → Within (allBonds r) P → Inside (pair ms m .h1) P → Refines (remove r ms P m) P
   remove-shrinks P m W h c i = go (remove-cases r ms P m c i)
     where
       go : Left r ms P m c ⊎ (c ≡ pair ms m .h1) → Inside c P
@@ -202,7 +206,7 @@ module _ (r : Bytes) (ok : check r ≡ accepted) (ms : List Pair) where
       (w .0, w .1, sub-trans c (bitAnd (w .0) U) (w .0) (q .1) (and-left (w .0) U))
 
   -- and serves them over the bonds that are kept
-  pub keep-serves : (U : ℕ) (P : List ℕ) → Within (allBonds r) P → Serves r U (keep r ms U P) P
+  keep-serves : (U : ℕ) (P : List ℕ) → Within (allBonds r) P → Serves r U (keep r ms U P) P
   unfolding keep
   keep-serves U P W f j t u i =
       let p : ℕ = i .0 in
@@ -210,7 +214,7 @@ module _ (r : Bytes) (ok : check r ≡ accepted) (ms : List Pair) where
       (w .0, mem-flat (λ p. bigComponents r (bitAnd p U)) P p (w .0) (i .1) (w .1), w .2)
 
   -- removing a match keeps this: a fragment in what is left of a piece of P misses the match, lies in a piece of X, and so in what is left of that
-  pub remove-serves : (U : ℕ) (X P : List ℕ) (m : ℕ) → Within (allBonds r) X → Within (allBonds r) P → Serves r U X P → Serves r U (remove r ms X m) (remove r ms P m)
+  remove-serves : (U : ℕ) (X P : List ℕ) (m : ℕ) → Within (allBonds r) X → Within (allBonds r) P → Serves r U X P → Serves r U (remove r ms X m) (remove r ms P m)
   remove-serves U X P m WX WP h f j t u i = go (remove-cases r ms P m (i .0) (i .1))
     where
       go : Left r ms P m (i .0) ⊎ (i .0 ≡ pair ms m .h1) → Inside f (remove r ms X m)

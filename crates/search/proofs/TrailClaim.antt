@@ -128,7 +128,7 @@ module _ (r : Bytes) (ok : check r ≡ accepted) (ms : List Pair) where
             asked stopped q = rw (e, q, counted) (own-trail s)
             asked full q = rw (e, q, counted) tt
 
-    pub visit-trail : (f : ℕ) (s : State) (run : Run) → Within (allBonds r) (s .pieces) → Holds (visit r ms setting room f s run) (λ a t run′. Trail r ms s a t)
+    visit-trail : (f : ℕ) (s : State) (run : Run) → Within (allBonds r) (s .pieces) → Holds (visit r ms setting room f s run) (λ a t run′. Trail r ms s a t)
     unfolding visit
     visit-trail zero s run W = tt
     visit-trail (suc f) s run W = go (two (ltb (run .states) (setting .budget))) (λ c run′ W′. visit-trail f c run′ W′)

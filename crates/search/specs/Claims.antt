@@ -15,6 +15,7 @@ use Rattle.bounds.specs.Removals.{Inside, Within}
 use Rattle.search.specs.Setting.{Setting, hasMemo}
 use Rattle.search.specs.State.{State, removable, maskOf, keep, remove}
 use Rattle.search.specs.Search.{Run, Outcome, answers, halts}
+use Rattle.search.specs.Answer.{ScoreAnswer, scored, turnedBack}
 
 -- every piece of the first list lies in one of the second
 abbrev pub Refines : List ℕ → List ℕ → Type 0
@@ -92,3 +93,8 @@ Ends setting (halts n p) = ((n ≡ 11) × (p ≡ setting .budget)) ⊎ ((n ≡ 1
 abbrev pub Counts : Setting → ℕ → ℕ → Outcome → Type 0
 Counts setting room low (answers a t run) = (low ≤ run .states) × (run .states ≤ setting .budget) × (length (run .memo) ≤ room)
 Counts setting room low (halts n p) = p ≤ setting .budget
+
+-- a score, or row 11 with the budget, or row 12 with the memo on and a number of states within the budget
+abbrev pub Finished : Setting → ScoreAnswer → Type 0
+Finished setting (scored index matches states trail) = Unit {0}
+Finished setting (turnedBack number place) = ((number ≡ 11) × (place ≡ setting .budget)) ⊎ ((number ≡ 12) × (setting .memo ≡ 1) × (place ≤ setting .budget))

@@ -1,9 +1,9 @@
--- Document 01, 'Search' and score's part of 'Answers and turned-back records', as definitions that compute.
+-- Document 01, 'Search' and score's part of 'Answers and turned-back records', as definitions that compute; and the statements of the theory of the search.
 pub mod Setting
 pub mod State
 pub mod Memo
 pub mod Search
 pub mod Series
-pub mod Claims
 pub mod Pathway
 pub mod Answer
+pub mod Claims
