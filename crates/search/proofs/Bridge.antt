@@ -30,13 +30,14 @@ use Rattle.search.proofs.Lists.{apart-flat}
 use Rattle.search.proofs.Parts.{components-split, big-is, big-apart}
 use Rattle.search.proofs.Refine.{diff-within, and-within, and-left, first-struck, second-struck, remove-within, allows-removable, struck-covered, mask-in, mask-within}
 
--- matches as removals of the theory of bounds; they save the same
+-- a match, and a series of matches, as removals of the theory of bounds
 abbrev pub removal : List Pair → ℕ → Removal
 removal ms m = record { first = pair ms m .h1; second = pair ms m .h2 }
 
 abbrev pub removals : List Pair → List ℕ → List Removal
 removals ms τ = map (removal ms) τ
 
+-- they save the same
 pub saved-is : (ms : List Pair) (τ : List ℕ) → savings (removals ms τ) ≡ saved ms τ
 unfolding sizeOf
 saved-is ms [] = refl

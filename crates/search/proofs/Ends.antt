@@ -32,17 +32,20 @@ use Rattle.search.proofs.Refine.{and-within, remove-first}
 use Rattle.search.proofs.TrailClaim.{tried-removable}
 use Rattle.search.proofs.Least.{ask-off, child-step, child-inv, root-inv}
 
+-- pieces of two bonds or more are at most half as many as their bonds
 count-two : (P : List ℕ) → ((p : ℕ) → Mem p P → 2 ≤ size p) → 2 * length P ≤ sumOf size P
 count-two [] h = omega arith
 count-two (p ∷ P) h = omega (arith, h p (m-head refl), count-two P (λ q i. h q (m-tail i)))
 
--- ---- letting go: bonds only go, and so with one bond less of each piece
+-- ---- letting go
 
 module _ (r : Bytes) (ok : check r ≡ accepted) (ms : List Pair) (U : ℕ) (P : List ℕ) (W : Within (allBonds r) P) where
+  -- bonds only go
   pub keep-size : sumOf size (keep r ms U P) ≤ sumOf size P
   unfolding keep
   keep-size = sum-flat size (λ p. bigComponents r (bitAnd p U)) P (λ p i. omega (arith, big-size r ok (bitAnd p U) (and-within p U (allBonds r) (W p i)), and-le p U))
 
+  -- and so with one bond less of each piece
   pub keep-less : sumOf (λ (p : ℕ). size p - 1) (keep r ms U P) ≤ sumOf (λ (p : ℕ). size p - 1) P
   unfolding keep
   keep-less = sum-flat (λ (p : ℕ). size p - 1) (λ p. bigComponents r (bitAnd p U)) P (λ p i. omega (arith, big-less r ok (bitAnd p U) (and-within p U (allBonds r) (W p i)), and-le p U))

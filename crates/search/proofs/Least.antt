@@ -64,7 +64,7 @@ module _ (r : Bytes) (ok : check r ≡ accepted) (ms : List Pair) (M : Laws r ms
       remove-step r ok ms M (heldOf r ms s) (s .next) m (keep-apart r ok ms U (s .pieces) (I .within) (I .apart))
       (refines-within (allBonds r) (keep-refines r ok ms U (s .pieces) (I .within)) (I .within)) (a .0)
 
-  -- children keep what every state keeps, and the root has it
+  -- a child keeps what every state keeps
   pub child-inv : (s : State) (m : ℕ) → Inv r ms s → Removable ms (s .pieces) (s .next) m → Inv r ms (child r ms s (heldOf r ms s) m)
   unfolding child
   child-inv s m I k =
@@ -75,6 +75,7 @@ module _ (r : Bytes) (ok : check r ≡ accepted) (ms : List Pair) (M : Laws r ms
         most = λ j l i. M .falls m j (omega arith) i;
       }
 
+  -- the root has it
   pub root-inv : Inv r ms (root r ms)
   unfolding root sizeOf
   root-inv = record {
@@ -83,6 +84,7 @@ module _ (r : Bytes) (ok : check r ≡ accepted) (ms : List Pair) (M : Laws r ms
     most = λ m l i. omega (arith, size-mono (pair ms m .h1) (allBonds r) (own-all r (pair ms m .h1) (M .twins m i .one-own)), size-first (bonds r));
   }
 
+  -- a child's claim, by the state's own index
   child-least : (s : State) (held : List ℕ) (m : ℕ) {b a b′ : ℕ} → Bounded r ms (child r ms s held m) b a b′
       → (τ : List ℕ) → Allows r ms (suc m) (remove r ms held m) τ → min b a ≤ (s .index - (sizeOf ms m - 1)) - saved ms τ
   unfolding child

@@ -24,11 +24,12 @@ use Rattle.search.specs.Claims.{Refines}
 
 -- ---- inside a piece
 
--- the test says whether a set lies in a piece
+-- where the test is true, a set lies in a piece
 pub inside-true : (P : List ℕ) (h : ℕ) → inside P h ≡ true → Inside h P
 unfolding inside
 inside-true P h e = let w = any-some (isSub h) P e in (w .0, w .1, eqb-true (bitAnd h (w .0)) h (w .2))
 
+-- and where it lies in one, the test is true
 pub true-inside : (P : List ℕ) (h : ℕ) → Inside h P → inside P h ≡ true
 unfolding inside
 true-inside P h i = go (two (inside P h))
@@ -41,13 +42,14 @@ true-inside P h i = go (two (inside P h))
 pub inside-refines : {X P : List ℕ} (f : ℕ) → Refines X P → Inside f X → Inside f P
 inside-refines f h i = let w = h (i .0) (i .1) in (w .0, w .1, sub-trans f (i .0) (w .0) (i .2) (w .2))
 
+-- what is within U stays so
 pub refines-within : (U : ℕ) {X P : List ℕ} → Refines X P → Within U P → Within U X
 refines-within U h W x i = let w = h x i in sub-trans x (w .0) U (w .2) (W (w .0) (w .1))
 
 -- ---- flat lists
 
 module _ {A B : Type 0} (g : A → List B) where
-  -- a member of a flat list comes from one place, and each place's members are there
+  -- a member of a flat list comes from one element's list
   pub flat-mem : (P : List A) (c : B) → Mem c (flatMap g P) → (p : A) × Mem p P × Mem c (g p)
   unfolding flatMap
   flat-mem [] c i = absurd (not-nil i)
@@ -57,6 +59,7 @@ module _ {A B : Type 0} (g : A → List B) where
       go (inl j) ih = (p, m-head refl, j)
       go (inr j) ih = let w = ih j in (w .0, m-tail (w .1), w .2)
 
+  -- and the members of each element's list are there
   pub mem-flat : (P : List A) (p : A) (c : B) → Mem p P → Mem c (g p) → Mem c (flatMap g P)
   unfolding flatMap
   mem-flat [] p c i j = absurd (not-nil i)
@@ -68,6 +71,7 @@ module _ {A B : Type 0} (g : A → List B) where
 
 -- ---- sums
 
+-- leaving elements out lowers a sum
 pub sum-filter : (f : ℕ → ℕ) (p : ℕ → Bool) (l : List ℕ) → sumOf f (filter p l) ≤ sumOf f l
 sum-filter f p [] = omega arith
 sum-filter f p (x ∷ l) = go (two (p x)) (sum-filter f p l)
@@ -76,6 +80,7 @@ sum-filter f p (x ∷ l) = go (two (p x)) (sum-filter f p l)
     go (inl e) ih = rw e (omega arith)
     go (inr e) ih = rw e (omega arith)
 
+-- and so does putting for each element a list of no larger sum
 pub sum-flat : (f : ℕ → ℕ) (g : ℕ → List ℕ) (P : List ℕ) → ((p : ℕ) → Mem p P → sumOf f (g p) ≤ f p) → sumOf f (flatMap g P) ≤ sumOf f P
 unfolding flatMap
 sum-flat f g [] h = omega arith

@@ -24,16 +24,19 @@ use Rattle.bounds.proofs.Steps.{apart-big, split-of}
 use Rattle.search.specs.State.{bigComponents}
 use Rattle.search.proofs.Lists.{sum-filter}
 
+-- the union of a list, by two definitions
 whole-unions : (l : List ℕ) → whole l ≡ unions (λ c. c) l
 unfolding whole unions
 whole-unions [] = refl
 whole-unions (c ∷ l) = ap (bitOr c) (whole-unions l)
 
+-- the parts of a set, with one bond less of each, have at most the set's bonds less one
 split-less : (l : List ℕ) (p : ℕ) → Split p l → sumOf (λ (a : ℕ). size a - 1) l ≤ size p - 1
 split-less [] p h = omega arith
 split-less (a ∷ l) p h = omega (arith, split-less l (diff p a) (h .2), size-minus p a (h .1), h .0)
 
 module _ (r : Bytes) (ok : check r ≡ accepted) where
+  -- an accepted record has from 1 to 64 bonds
   pub few : bonds r ≤ 64
   few = accepted-formed r ok .sized .few
 
@@ -71,11 +74,12 @@ module _ (r : Bytes) (ok : check r ≡ accepted) where
     unfolding bigComponents
     big-apart = apart-big (components r s) (components-apart r few s own)
 
-    -- together they have at most the bonds of s, and so with one bond less of each
+    -- together they have at most the bonds of s
     pub big-size : sumOf size (bigComponents r s) ≤ size s
     unfolding bigComponents
     big-size = omega (arith, sum-filter size (λ c. leb 2 (size c)) (components r s), split-size (components r s) s components-split)
 
+    -- and so with one bond less of each
     pub big-less : sumOf (λ (c : ℕ). size c - 1) (bigComponents r s) ≤ size s - 1
     unfolding bigComponents
     big-less = omega (arith, sum-filter (λ (c : ℕ). size c - 1) (λ c. leb 2 (size c)) (components r s), split-less (components r s) s components-split)

@@ -30,7 +30,7 @@ use Rattle.search.specs.Claims.{Refines, Serves, Removable, Allows}
 use Rattle.search.proofs.Lists.{inside-true, true-inside, inside-refines, refines-within, flat-mem, mem-flat}
 use Rattle.search.proofs.Parts.{big-is, big-covers}
 
--- ---- sets
+-- ---- sets: parts, and parts of parts
 
 pub diff-within : (p s U : ℕ) → Sub p U → Sub (diff p s) U
 diff-within p s U = sets (sub (v 0) (v 2) ∷ []) (sub (less (v 0) (v 1)) (v 2)) (p ∷ s ∷ U ∷ []) tt
@@ -59,7 +59,7 @@ pub second-struck : (ms : List Pair) (m : ℕ) → Sub (pair ms m .h2) (struck m
 unfolding struck
 second-struck ms m = sets [] (sub (v 1) (or (v 0) (v 1))) (pair ms m .h1 ∷ pair ms m .h2 ∷ []) tt
 
--- one piece
+-- one piece lies in itself, and is apart
 pub one-within : (U : ℕ) → Within U (U ∷ [])
 one-within U p i = let e : p ≡ U = mem-one i in rw e (and-self U)
 
@@ -72,7 +72,7 @@ both-true a b e f = rw (e, f)
 module _ (r : Bytes) (ms : List Pair) where
   -- ---- removable matches
 
-  -- the list of the removable matches holds these and no others
+  -- what the list of the removable matches holds is removable
   pub removable-mem : (P : List ℕ) (n m : ℕ) → Mem m (removable r ms P n) → Removable ms P n m
   unfolding removable
   removable-mem P n m i =
@@ -81,6 +81,7 @@ module _ (r : Bytes) (ms : List Pair) where
       let b = and-true (inside P (pair ms m .h1)) (inside P (pair ms m .h2)) (w .1) in
       record { after = k .0; is = omega arith; in1 = inside-true P (pair ms m .h1) (b .0); in2 = inside-true P (pair ms m .h2) (b .1) }
 
+  -- and what is removable stands in it
   pub mem-removable : (P : List ℕ) (n m : ℕ) → Removable ms P n m → Mem m (removable r ms P n)
   unfolding removable
   mem-removable P n m h =
@@ -88,11 +89,13 @@ module _ (r : Bytes) (ms : List Pair) where
       (numbers-mem (length ms - n) n m (h .after) (omega (arith, h .after, h .is)))
       (both-true (inside P (pair ms m .h1)) (inside P (pair ms m .h2)) (true-inside P (pair ms m .h1) (h .in1)) (true-inside P (pair ms m .h2) (h .in2)))
 
+  -- what is removable in X is removable in what X refines
   removable-refines : (X P : List ℕ) (n m : ℕ) → Refines X P → Removable ms X n m → Removable ms P n m
   removable-refines X P n m h k = record { after = k .after; is = k .is; in1 = inside-refines (pair ms m .h1) h (k .in1); in2 = inside-refines (pair ms m .h2) h (k .in2) }
 
   -- ---- `allowedFrom` and `Allows` say the same
 
+  -- from the test to the statement
   pub allowed-allows : (n : ℕ) (P τ : List ℕ) → allowedFrom r ms n P τ ≡ true → Allows r ms n P τ
   unfolding allowedFrom
   allowed-allows n P [] e = tt
@@ -105,6 +108,7 @@ module _ (r : Bytes) (ms : List Pair) where
         allowed-allows (suc m) (remove r ms P m) τ (a .1),
       )
 
+  -- and back
   pub allows-allowed : (n : ℕ) (P τ : List ℕ) → Allows r ms n P τ → allowedFrom r ms n P τ ≡ true
   unfolding allowedFrom
   allows-allowed n P [] a = refl
@@ -116,7 +120,7 @@ module _ (r : Bytes) (ms : List Pair) where
       let e5 : allowedFrom r ms (suc m) (remove r ms P m) τ ≡ true = allows-allowed (suc m) (remove r ms P m) τ (a .1) in
       rw (e1, e2, e3, e4, e5)
 
-  -- the numbers of an allowed series rise strictly, from n on, and are numbers of matches
+  -- the numbers of an allowed series are numbers of matches, from n on
   pub allows-from : (n : ℕ) (P τ : List ℕ) → Allows r ms n P τ → (m : ℕ) → Mem m τ → (n ≤ m) × (m < length ms)
   allows-from n P [] a m i = absurd (not-nil i)
   allows-from n P (k ∷ τ) a m i =
@@ -124,6 +128,7 @@ module _ (r : Bytes) (ms : List Pair) where
       let l = a .0 .after in
       ⊎-elim (λ (e : m ≡ k). rw e (l, a .0 .is)) (λ (t : Mem m τ). (omega (arith, ih t .0), ih t .1)) (mem-cons i)
 
+  -- and they rise strictly
   pub allows-ascends : (n : ℕ) (P τ : List ℕ) → Allows r ms n P τ → Ascending τ
   allows-ascends n P [] a = tt
   allows-ascends n P (m ∷ τ) a = (λ k i. allows-from (suc m) (remove r ms P m) τ (a .1) k i .0, allows-ascends (suc m) (remove r ms P m) τ (a .1))
@@ -133,16 +138,19 @@ module _ (r : Bytes) (ms : List Pair) where
   abbrev Left : List ℕ → ℕ → ℕ → Type 0
   Left P m c = (p : ℕ) × Mem p P × Mem c (bigComponents r (diff p (struck ms m)))
 
+  -- a piece that is left is one of these
   remove-cases : (P : List ℕ) (m c : ℕ) → Mem c (remove r ms P m) → Left P m c ⊎ (c ≡ pair ms m .h1)
   unfolding remove
   remove-cases P m c i =
       let g : ℕ → List ℕ = λ p. bigComponents r (diff p (struck ms m)) in
       ⊎-elim (λ j. inl (flat-mem g P c j)) (λ j. inr (mem-one j)) (mem-cases (flatMap g P) i)
 
+  -- the first fragment is left
   pub remove-first : (P : List ℕ) (m : ℕ) → Mem (pair ms m .h1) (remove r ms P m)
   unfolding remove
   remove-first P m = mem-right (flatMap (λ p. bigComponents r (diff p (struck ms m))) P) (m-head refl)
 
+  -- and so is each such component
   remove-mem : (P : List ℕ) (m p c : ℕ) → Mem p P → Mem c (bigComponents r (diff p (struck ms m))) → Mem c (remove r ms P m)
   unfolding remove
   remove-mem P m p c i j = mem-left (pair ms m .h1 ∷ []) (mem-flat (λ p. bigComponents r (diff p (struck ms m))) P p c i j)
@@ -159,6 +167,7 @@ module _ (r : Bytes) (ok : check r ≡ accepted) (ms : List Pair) where
           (w .0, w .1, sub-trans c d (w .0) (q .1) (diff-sub (w .0) (struck ms m)))
       go (inr e) = rw e h
 
+  -- so they go on holding bonds of the record
   pub remove-within : (P : List ℕ) (m : ℕ) → Within (allBonds r) P → Inside (pair ms m .h1) P → Within (allBonds r) (remove r ms P m)
   remove-within P m W h = refines-within (allBonds r) (remove-shrinks P m W h) W
 
@@ -252,7 +261,7 @@ module _ (r : Bytes) (ok : check r ≡ accepted) (ms : List Pair) where
     pub struck-covered : (P : List ℕ) (n m : ℕ) → Removable ms P n m → Sub (struck ms m) (maskOf r ms (removable r ms P n) 2)
     struck-covered P n m h = sub-of (struck ms m) (maskOf r ms (removable r ms P n) 2) (λ b e. cover-bit P n m b h e)
 
-    -- the bonds in removable matches of size k: those of such a match are there, and all of them are kept
+    -- a removable match of size k is within the bonds in removable matches of size k
     pub mask-in : (P : List ℕ) (n m k : ℕ) → Removable ms P n m → sizeOf ms m ≡ k → Sub (struck ms m) (maskOf r ms (removable r ms P n) k)
     unfolding maskOf
     mask-in P n m k h e =
@@ -260,6 +269,7 @@ module _ (r : Bytes) (ok : check r ≡ accepted) (ms : List Pair) where
         (λ b w. unions-one (struck ms) (filter (λ m. eqb (sizeOf ms m) k) (removable r ms P n)) m b
         (keep-intro (λ m. eqb (sizeOf ms m) k) (removable r ms P n) (mem-removable r ms P n m h) (eq-eqb (sizeOf ms m) k e)) w)
 
+    -- all of which are kept
     pub mask-within : (P : List ℕ) (n k : ℕ) → Sub (maskOf r ms (removable r ms P n) k) (maskOf r ms (removable r ms P n) 2)
     unfolding maskOf
     mask-within P n k =

@@ -47,6 +47,7 @@ record Searched (r : Bytes) (setting : Setting) (room : Room) (index matches sta
   count : matches ≡ length (matchTable r .matches)
   entered : states ≡ run .states
 
+-- by the cases of the rows and of the search's outcome
 score-searched : (r : Bytes) (setting : Setting) (room : Room) (index matches states : ℕ) (trail : List ℕ) → scoreAnswer r setting room ≡ scored index matches states trail
     → Searched r setting room index matches states trail
 unfolding scoreAnswer searched
@@ -80,6 +81,7 @@ score-searched r setting room a k n t e = entry (entryAnswer r setting room) ref
                 let et : t1 ≡ t = cc in
                 record { ok = entry-accepted r setting room q; run = run; is = rw (← ea, ← et) u; count = cc; entered = cc }
 
+-- a table has as many pairs as matches
 pairs-length : (r : Bytes) → length (pairs r) ≡ length (matchTable r .matches)
 unfolding pairsOf
 pairs-length r = length-map (matchTable r .matches) (λ m. record { h1 = getD (matchTable r .nodes) (m .larger) 0; h2 = getD (matchTable r .nodes) (m .smaller) 0 })
@@ -106,6 +108,7 @@ module _ (r : Bytes) (setting : Setting) (room : Room) (index matches states : �
   scored-matches = it .count ∙ sym (pairs-length r)
 
   -- ---- the trail, whatever the bounds and the memo
+  -- An answer is the index of a state that answers its own, with that state's removals. The state's pieces lie in those that the same removals leave with nothing let go, so each removal is allowed there (TrailClaim)
 
   series : Allows r (pairs r) 0 (allBonds r ∷ []) trail
   series = search-series r (it .ok) (pairs r) setting (memoRoom (room .memo)) index trail (it .run) (it .is) .0
@@ -130,14 +133,16 @@ module _ (r : Bytes) (setting : Setting) (room : Room) (index matches states : �
   pub trail-exact : index + saved (pairs r) trail ≡ bonds r - 1
   trail-exact = omega (arith, trail-scores, score-exact r (it .ok) (pairs r) laws trail trail-allowed)
 
-  -- at most n / 2 of them, so at most 32
+  -- they are at most n / 2
   pub trail-half : 2 * length trail ≤ bonds r
   trail-half = allowed-length r (it .ok) (pairs r) laws trail trail-allowed
 
+  -- so at most 32
   pub trail-fits : length trail ≤ 32
   trail-fits = omega (arith, trail-half, few r (it .ok))
 
   -- ---- the index
+  -- The trail is an allowed series, so the index is its score. With the memo off every allowed series is followed by the search, since letting go loses none (Refine), or is cut off where a bound says that it saves too little to beat best (Bridge, Least)
 
   -- with the memo on or off it is never below the least score
   pub index-above : leastScore r (pairs r) ≤ index
@@ -149,10 +154,11 @@ module _ (r : Bytes) (setting : Setting) (room : Room) (index matches states : �
     pub index-least : (τ : List ℕ) → allowed r (pairs r) τ ≡ true → index ≤ seriesScore r (pairs r) τ
     index-least = search-least r (it .ok) (pairs r) laws setting (memoRoom (room .memo)) (memo-off setting off) index trail (it .run) (it .is)
 
-    -- so it is the least score, in words and as it computes
+    -- so it is the least score
     pub index-is-least : IsLeastScore r (pairs r) index
     index-is-least = search-is-least r (it .ok) (pairs r) laws setting (memoRoom (room .memo)) (memo-off setting off) index trail (it .run) (it .is)
 
+    -- that is, the one that computes
     pub index-is : index ≡ leastScore r (pairs r)
     index-is = search-score r (it .ok) (pairs r) laws setting (memoRoom (room .memo)) (memo-off setting off) index trail (it .run) (it .is)
 
@@ -161,14 +167,15 @@ module _ (r : Bytes) (setting : Setting) (room : Room) (index matches states : �
   counts : Counts setting (memoRoom (room .memo)) 1 (answers index trail (it .run))
   counts = rw (it .is) at (search-counts r (pairs r) setting (memoRoom (room .memo)))
 
-  -- from 1 to budget states were entered
+  -- at least one state was entered
   pub states-some : 1 ≤ states
   states-some = omega (arith, counts .0, it .entered)
 
+  -- and at most as many as the budget
   pub states-within : states ≤ setting .budget
   states-within = omega (arith, counts .1, it .entered)
 
-  -- and the search that answered so used no more memo entries than there are
+  -- the search that answered so used no more memo entries than there are
   pub memo-within : (run : Run) × (search r (pairs r) setting (memoRoom (room .memo)) ≡ answers index trail run) × (states ≡ run .states) × (length (run .memo) ≤ memoRoom (room .memo))
   memo-within = (it .run, it .is, it .entered, counts .2)
 

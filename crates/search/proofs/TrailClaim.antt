@@ -47,11 +47,12 @@ tried-removable r ms setting room s best m i = removable-mem r ms (s .pieces) (s
     go (inr e) = rw (e, tried) at i
 
 module _ (r : Bytes) (ok : check r ≡ accepted) (ms : List Pair) where
-  -- the root's pieces and a child's hold bonds of the record
+  -- the root's pieces hold bonds of the record
   pub root-within : Within (allBonds r) (root r ms .pieces)
   unfolding root
   root-within = one-within (allBonds r)
 
+  -- and so do a child's
   pub child-within : (s : State) (held : List ℕ) (m : ℕ) → Within (allBonds r) (s .pieces) → Refines held (s .pieces) → Removable ms (s .pieces) (s .next) m
       → Within (allBonds r) (child r ms s held m .pieces)
   unfolding child
