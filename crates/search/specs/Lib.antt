@@ -6,5 +6,6 @@ pub mod Search
 pub mod Series
 pub mod Pathway
 pub mod Answer
+pub mod Claims
 pub mod Joining
 pub mod Examples
