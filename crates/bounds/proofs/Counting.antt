@@ -3,7 +3,7 @@ use mathlib.Core.Path.{_≡_, refl, ap, _∙_}
 use mathlib.Core.Bool.{Bool, true, false, not}
 use mathlib.Core.List.{List, [], _∷_, _++_, map, map-append}
 use Prim.Native.Nat.{ℕ, zero, suc, _+_, _-_, _*_, _^_, _≤_, _<_, max}
-use native.Mathlib.Nat.{mul-suc}
+use native.Mathlib.Nat.{mul-suc, sub-zero}
 use native.Mathlib.Numerals.{add-one}
 use native.Mathlib.Omega.{arith}
 use lib.Bits.{bitAnd, and-le-r}
@@ -72,6 +72,10 @@ module _ (pieces : List ℕ) where
       let e : i ≡ length pieces = omega arith in
       ap (take (length pieces)) (s .1 .is) ∙ take-at (map size (take i pieces)) (drop i old) (length pieces) (s .1 .count ∙ e)
       ∙ ap (λ (n : ℕ). map size (take n pieces)) e ∙ ap (map size) (take-length pieces)
+
+  -- what is lent of them
+  pub sizes-part : (sizes : List ℕ) → take (length pieces) sizes ≡ map size pieces → take (length pieces - 0) sizes ≡ map size pieces
+  sizes-part sizes e = rw (sub-zero (length pieces)) e
 
   -- words have at most 64 bonds each
   pub sizes-small : ((i : ℕ) → getD pieces i 0 < 2 ^ 64) → sumOf (λ (s : ℕ). s) (map size pieces) ≤ 64 * length pieces

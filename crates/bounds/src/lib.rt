@@ -1,5 +1,5 @@
-// The two bounds of the search (src/bounds.rs): J of Int (`int_bound`) and what is left of the matches' sizes (`least_size`).
-// The contracts are by the definitions of specs/Bounds.antt. proofs/Bounds.antt has that both are bounds.
+// The two bounds of the search (src/bounds.rs): J of Int (`int_bound`), and the least size that is tried (`least_size`).
+// The contracts are by the definitions of specs/Bounds.antt, and proofs/Bounds.antt has that both are bounds.
 ghost use mathlib.Core.Path.{_≡_};
 ghost use mathlib.Core.List.{List, map};
 ghost use Prim.Native.Nat.{ℕ, _-_, _≤_, _<_};
@@ -23,11 +23,15 @@ fn ceil_div(x: u32, y: u32) -> u32
     if x == 0 { 0 } else { (x - 1) / y + 1 }
 }
 
-// The number of digits of t - 1.
+// Ceiling log2 of t: how many digits t - 1 has.
 pub fn ceil_log2(t: u32) -> u32
     ensures { λ r. ⌜ r ≡ ceilLog2 t ⌝ }
 {
-    if t == 0 { 0 } else { 32 - u32::leading_zeros(t - 1) }
+    if t == 0 {
+        0
+    } else {
+        32 - u32::leading_zeros(t - 1)
+    }
 }
 
 // ---- J
@@ -46,6 +50,7 @@ fn sizes(pieces: &[u64]) -> [u32; 32]
     r
 }
 
+// The bonds of all pieces.
 fn total(sizes: &[u32]) -> u32
     requires { ⌜ sumOf (λ (s : ℕ). s) (now sizes) ≤ 2048 ⌝ }
     ensures { λ r. ⌜ r ≡ sumOf (λ (s : ℕ). s) (now (sizes .entry)) ⌝ }
@@ -59,7 +64,7 @@ fn total(sizes: &[u32]) -> u32
     sum
 }
 
-// How many fragments of t bonds hold each piece, together.
+// Each size over t rounded up, summed.
 fn ceilings(sizes: &[u32], t: u32) -> u32
     requires { ⌜ (0 < t) × (sumOf (λ (s : ℕ). s) (now sizes) ≤ 2048) ⌝ }
     ensures { λ r. ⌜ r ≡ sumOf (λ (s : ℕ). ceilDiv s t) (now (sizes .entry)) ⌝ }
@@ -92,6 +97,7 @@ fn largest_term(sizes: &[u32], largest: u32) -> u32
     best
 }
 
+// J: the largest over t from 2 to largest of all bonds, less ceiling log2 t, less each size over t rounded up.
 pub fn int_bound(pieces: &[u64], largest: u32) -> u32
     requires { ⌜ (length (now pieces) ≤ 32) × (largest ≤ 64) ⌝ }
     ensures { λ r. ⌜ r ≡ intBound ceilLog2 (now (pieces .entry)) largest ⌝ }
@@ -101,9 +107,9 @@ pub fn int_bound(pieces: &[u64], largest: u32) -> u32
     largest_term(&sizes[0..n], largest)
 }
 
-// ---- sizes left out
+// ---- the sizes tried
 
-// Of one piece.
+// What a piece can save: total of its bonds are in removable size-2 matches, full of them in removable size-k matches.
 pub fn usable_edges(k: u32, total: u32, full: u32) -> u32
     requires { ⌜ (2 ≤ k) × (full ≤ total) ⌝ }
     ensures { λ r. ⌜ r ≡ usableEdges k total full ⌝ }
@@ -111,6 +117,7 @@ pub fn usable_edges(k: u32, total: u32, full: u32) -> u32
     total - full / k - ceil_div(total - full + full % k, k - 1)
 }
 
+// What all pieces can save where size k is removed first: w has the bonds in removable size-2 matches, f those in removable size-k matches.
 pub fn usable_edges_bound(w: u64, f: u64, pieces: &[u64], k: u32) -> u32
     requires { ⌜ (2 ≤ k) × (length (now pieces) ≤ 32) × Sub f w ⌝ }
     ensures { λ r. ⌜ r ≡ usableEdgesBound ceilLog2 w f (now (pieces .entry)) k ⌝ }
@@ -119,12 +126,17 @@ pub fn usable_edges_bound(w: u64, f: u64, pieces: &[u64], k: u32) -> u32
     let mut i = 0;
     while i < pieces.len() {
         let p = pieces[i];
-        sum += usable_edges(k, bitset::size(bitset::common(p, w)), bitset::size(bitset::common(p, f)));
+        sum += usable_edges(
+            k,
+            bitset::size(bitset::common(p, w)),
+            bitset::size(bitset::common(p, f)),
+        );
         i += 1;
     }
     less(sum, ceil_log2(k))
 }
 
+// The first size from 2 to largest that is not left out, largest + 1 where all are: masks[k] has the bonds in removable size-k matches.
 pub fn least_size(masks: &[u64], pieces: &[u64], index: u32, best: u32, largest: u32) -> u32
     requires { ⌜ (largest < length (now masks)) × (length (now pieces) ≤ 32) × (best ≤ 4096) × (largest ≤ 64) × ((k : ℕ) → 2 ≤ k → k ≤ largest → Sub (getD (now masks) k 0) (getD (now masks) 2 0)) ⌝ }
     ensures { λ r. ⌜ r ≡ leastSize ceilLog2 (λ k. getD (now (masks .entry)) k 0) (now (pieces .entry)) index best largest ⌝ }

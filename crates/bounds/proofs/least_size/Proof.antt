@@ -1,80 +1,60 @@
+-- `bounds::least_size` meets its contract: the first of the sizes left is the first of all. Assumes nothing.
+use borrow.Author.Needs.{needs}
+use mathlib.Core.Path.{_≡_}
+use Prim.Native.Nat.{ℕ, _+_, _-_, _*_, _≤_}
+use native.Mathlib.Omega.{arith}
+use lib.ListN.{length, getD}
+use Rattle.bounds.proofs.Counting.{Leaving, leaving-start, leaving-found, leaving-next, leaving-done, usable-bound-small}
 use Rattle.bounds.proofs.least_size.Statement.{statement}
 use Rattle.bounds.proofs.least_size.Tie as tie
-use Rattle.bounds.proofs.least_size.Reads as reads
-use Rattle.bounds.proofs.least_size.Lts as lts
-use Rattle.bounds.proofs.usable_edges_bound.Reads as usable-edges-bound-reads
 
 abbrev Inv-loop : tie.InvT-loop
-Inv-loop masks pieces index best largest k₀ k = ?
+Inv-loop masks pieces index best largest k₀ k = (2 ≤ k) × (k ≤ 65) × Leaving (λ k. getD masks k 0) pieces index best largest k
 
 abbrev μ-loop : tie.MeasureT-loop
-μ-loop masks pieces index best largest k₀ k = ?
+μ-loop masks pieces index best largest k₀ k = (largest + 1) - k
 
--- src/lib.rt:133:5
 loop-holds : tie.Need-loop-holds Inv-loop μ-loop
-loop-holds c = ?
+loop-holds c = let a = c .before .before .args in (omega arith, omega arith, leaving-start (λ k. getD (a .masks .now) k 0) (a .pieces .now) (a .index) (a .best) (a .largest))
 
--- src/lib.rt:134:40
-shared-slice-read-usable-edges-bound :
-    tie.Need-shared-slice-read-usable-edges-bound Inv-loop μ-loop
-shared-slice-read-usable-edges-bound c = ?
+shared-slice-read-usable-edges-bound : tie.Need-shared-slice-read-usable-edges-bound Inv-loop μ-loop
+shared-slice-read-usable-edges-bound c = omega arith
 
--- src/lib.rt:134:56
 cast-usable-edges-bound : tie.Need-cast-usable-edges-bound Inv-loop μ-loop
-cast-usable-edges-bound c = ?
+cast-usable-edges-bound c = omega arith
 
--- src/lib.rt:134:50
 mul-usable-edges-bound : tie.Need-mul-usable-edges-bound Inv-loop μ-loop
-mul-usable-edges-bound c = ?
+mul-usable-edges-bound c = omega arith
 
--- src/lib.rt:134:50
-shared-slice-read-usable-edges-bound-2 :
-    tie.Need-shared-slice-read-usable-edges-bound-2 Inv-loop μ-loop
-shared-slice-read-usable-edges-bound-2 c = ?
+shared-slice-read-usable-edges-bound-2 : tie.Need-shared-slice-read-usable-edges-bound-2 Inv-loop μ-loop
+shared-slice-read-usable-edges-bound-2 c = omega arith
 
--- src/lib.rt:134:13
 usable-edges-bound-requires : tie.Need-usable-edges-bound-requires Inv-loop μ-loop
-usable-edges-bound-requires c κs = ?
+usable-edges-bound-requires c κs = (c .before .before .before .loop .inv .0, c .before .before .before .before .before .before .pre .1, c .before .before .before .before .before .before .pre .4 (c .before .before .before .loop .k) (c .before .before .before .loop .inv .0) (c .before .before .loop-test .taken))
 
--- src/lib.rt:135:20
 add-if1 : tie.Need-add-if1 Inv-loop μ-loop
-add-if1 c = ?
+add-if1 c =
+    let a = c .before .before .before .before .before .before .before .args in
+    omega (arith, c .usable-edges-bound .ensures, usable-bound-small (getD (a .masks .now) 2 0) (getD (a .masks .now) (c .before .before .before .before .loop .k) 0) (a .pieces .now) (c .before .before .before .before .loop .k) (omega (arith, c .before .before .shared-slice-known3 .given 2)), c .before .before .before .before .before .before .before .pre .1, c .before .before .before .before .before .before .before .pre .2)
 
--- src/lib.rt:136:13
 returns : tie.Need-returns Inv-loop μ-loop
-returns c = ?
+returns c =
+    let a = c .before .before .before .before .before .before .before .before .args in
+    leaving-found (λ k. getD (a .masks .now) k 0) (a .pieces .now) (a .index) (a .best) (a .largest) (c .before .before .before .before .before .loop .k) (c .before .usable-edges-bound .result) (c .before .before .before .before .before .loop .inv .2) (c .before .before .before .before .loop-test .taken) (c .before .usable-edges-bound .ensures) (c .if1 .taken)
 
--- src/lib.rt:138:9
 add-k : tie.Need-add-k Inv-loop μ-loop
-add-k c = ?
+add-k c = omega arith
 
--- src/lib.rt:133:5
 loop-less : tie.Need-loop-less Inv-loop μ-loop
-loop-less c = ?
+loop-less c = omega arith
 
--- src/lib.rt:133:5
 loop-again : tie.Need-loop-again Inv-loop μ-loop
-loop-again c = ?
+loop-again c =
+    let a = c .before .before .before .before .before .before .before .before .args in
+    (omega arith, omega arith, leaving-next (λ k. getD (a .masks .now) k 0) (a .pieces .now) (a .index) (a .best) (a .largest) (c .before .before .before .before .before .loop .k) (c .before .usable-edges-bound .result) (c .before .before .before .before .before .loop .inv .2) (c .before .before .before .before .loop-test .taken) (c .before .usable-edges-bound .ensures) (omega arith))
 
--- src/lib.rt:128:1
 returns-2 : tie.Need-returns-2 Inv-loop μ-loop
-returns-2 c = ?
+returns-2 c = let a = c .before .before .before .before .args in leaving-done (λ k. getD (a .masks .now) k 0) (a .pieces .now) (a .index) (a .best) (a .largest) (c .before .loop .k) (c .before .loop .inv .2) (omega arith)
 
 pub least-size-spec : {M : Type 1} → statement M
-least-size-spec =
-    tie.close
-    (tie.spec
-    Inv-loop
-    μ-loop
-    loop-holds
-    shared-slice-read-usable-edges-bound
-    cast-usable-edges-bound
-    mul-usable-edges-bound
-    shared-slice-read-usable-edges-bound-2
-    usable-edges-bound-requires
-    add-if1
-    returns
-    add-k
-    loop-less
-    loop-again
-    returns-2)
+least-size-spec = tie.close (tie.spec Inv-loop μ-loop loop-holds shared-slice-read-usable-edges-bound cast-usable-edges-bound mul-usable-edges-bound shared-slice-read-usable-edges-bound-2 usable-edges-bound-requires add-if1 returns add-k loop-less loop-again returns-2)
