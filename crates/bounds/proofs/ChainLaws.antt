@@ -1,7 +1,7 @@
 -- Addition chains: ceiling log2 is a lower bound of their lengths, and how a chain grows. Assumes nothing.
 use mathlib.Core.Path.{_≡_, refl, ap, _∙_}
-use mathlib.Core.Logic.{_⊎_, inl, inr, ⊎-elim}
-use mathlib.Core.List.{List, [], _∷_, List·Memᴰ, List·Memᴰ·cases-cons, List·Memᴰ·not-nil, List·Memᴰ·head, List·Memᴰ·tail, Memᴰ·cast}
+use mathlib.Core.Logic.{inl, inr, ⊎-elim}
+use mathlib.Core.List.{List, [], _∷_, List·Memᴰ·cases-cons, List·Memᴰ·not-nil, List·Memᴰ·head, List·Memᴰ·tail, Memᴰ·cast}
 use Prim.Native.Nat.{ℕ, zero, suc, _+_, _^_, _≤_, _<_}
 use native.Mathlib.Nat.{pow-suc}
 use native.Mathlib.Omega.{arith}
@@ -9,7 +9,7 @@ use lib.Pow.{pow-pos}
 use lib.ListN.{length}
 use Rattle.molecule.specs.Lists.{firstFrom}
 use Rattle.bounds.specs.Numbers.{ceilLog2}
-use Rattle.bounds.specs.Chain.{Known, Sum, Chain, LowerBound}
+use Rattle.bounds.specs.Chain.{Known, Chain, LowerBound}
 use Rattle.bounds.proofs.Numbers.{log-least}
 
 -- ---- what a list knows

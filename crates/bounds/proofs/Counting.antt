@@ -1,8 +1,8 @@
 -- Loops: a sum over a list, a list written from its front, the largest term, and the first size that is not left out. Assumes nothing.
 use mathlib.Core.Path.{_≡_, refl, ap, _∙_}
-use mathlib.Core.Bool.{Bool, true, false, not}
+use mathlib.Core.Bool.{true, false, not}
 use mathlib.Core.List.{List, [], _∷_, _++_, map, map-append}
-use Prim.Native.Nat.{ℕ, zero, suc, _+_, _-_, _*_, _^_, _≤_, _<_, max}
+use Prim.Native.Nat.{ℕ, suc, _+_, _-_, _*_, _^_, _≤_, _<_, max}
 use native.Mathlib.Nat.{mul-suc, sub-zero}
 use native.Mathlib.Numerals.{add-one}
 use native.Mathlib.Omega.{arith}
@@ -11,7 +11,7 @@ use lib.Dec.{leb}
 use borrow.Author.Tests.{le-leb, lt-leb}
 use lib.ListN.{length, getD, take, drop, set, drop-of-length-le}
 use lib.Seq.{drop-cons, take-suc, take-at, take-length}
-use Rattle.bitset.specs.Bits.{Sub, size}
+use Rattle.bitset.specs.Bits.{size}
 use Rattle.bitset.proofs.Laws.{size-le}
 use Rattle.molecule.specs.Lists.{firstFrom, numbersFrom}
 use Rattle.molecule.proofs.Lists.{Front, front-put}

@@ -1,10 +1,6 @@
 -- `bounds::ceil_div` meets its contract. Assumes nothing.
 use borrow.Author.Needs.{needs}
-use mathlib.Core.Path.{ap}
-use Prim.Native.Nat.{ℕ}
-use native.Mathlib.Nat.{zero-lt-suc}
 use native.Mathlib.Omega.{arith}
-use Rattle.bounds.specs.Numbers.{ceilDiv}
 use Rattle.bounds.proofs.Numbers.{ceil-up, ceil-small}
 use Rattle.bounds.proofs.ceil_div.Statement.{statement}
 use Rattle.bounds.proofs.ceil_div.Tie as tie

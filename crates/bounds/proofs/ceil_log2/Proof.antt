@@ -1,7 +1,6 @@
 -- `bounds::ceil_log2` meets its contract. Assumes nothing.
 use borrow.Author.Needs.{needs}
 use mathlib.Core.Path.{_≡_, sym, ap}
-use Prim.Native.Nat.{_-_}
 use native.Mathlib.Omega.{arith}
 use lib.Count.{leading-le}
 use Rattle.molecule.specs.Lists.{firstFrom}
@@ -14,7 +13,7 @@ sub-result : tie.Need-sub-result
 sub-result c = search needs
 
 sub-result-2 : tie.Need-sub-result-2
-sub-result-2 c = leading-le 32 (c .before .args .t - 1)
+sub-result-2 c = leading-le 32 _
 
 returns : tie.Need-returns
 unfolding ceilLog2 firstFrom

@@ -1,9 +1,7 @@
 -- `bounds::least_size` meets its contract: the first of the sizes left is the first of all. Assumes nothing.
-use borrow.Author.Needs.{needs}
-use mathlib.Core.Path.{_≡_}
-use Prim.Native.Nat.{ℕ, _+_, _-_, _*_, _≤_}
+use Prim.Native.Nat.{_+_, _-_, _≤_}
 use native.Mathlib.Omega.{arith}
-use lib.ListN.{length, getD}
+use lib.ListN.{getD}
 use Rattle.bounds.proofs.Counting.{Leaving, leaving-start, leaving-found, leaving-next, leaving-done, usable-bound-small}
 use Rattle.bounds.proofs.least_size.Statement.{statement}
 use Rattle.bounds.proofs.least_size.Tie as tie
@@ -30,7 +28,7 @@ shared-slice-read-usable-edges-bound-2 : tie.Need-shared-slice-read-usable-edges
 shared-slice-read-usable-edges-bound-2 c = omega arith
 
 usable-edges-bound-requires : tie.Need-usable-edges-bound-requires Inv-loop μ-loop
-usable-edges-bound-requires c κs = (c .before .before .before .loop .inv .0, c .before .before .before .before .before .before .pre .1, c .before .before .before .before .before .before .pre .4 (c .before .before .before .loop .k) (c .before .before .before .loop .inv .0) (c .before .before .loop-test .taken))
+usable-edges-bound-requires c κs = (c .before .before .before .loop .inv .0, c .before .before .before .before .before .before .pre .1, c .before .before .before .before .before .before .pre .4 (c .before .before .before .loop .k) (c .before .before .before .loop .inv .0) (omega (arith, c .before .before .loop-test .taken)))
 
 add-if1 : tie.Need-add-if1 Inv-loop μ-loop
 add-if1 c =
@@ -40,7 +38,7 @@ add-if1 c =
 returns : tie.Need-returns Inv-loop μ-loop
 returns c =
     let a = c .before .before .before .before .before .before .before .before .args in
-    leaving-found (λ k. getD (a .masks .now) k 0) (a .pieces .now) (a .index) (a .best) (a .largest) (c .before .before .before .before .before .loop .k) (c .before .usable-edges-bound .result) (c .before .before .before .before .before .loop .inv .2) (c .before .before .before .before .loop-test .taken) (c .before .usable-edges-bound .ensures) (c .if1 .taken)
+    leaving-found (λ k. getD (a .masks .now) k 0) (a .pieces .now) (a .index) (a .best) (a .largest) (c .before .before .before .before .before .loop .k) (c .before .usable-edges-bound .result) (c .before .before .before .before .before .loop .inv .2) (omega (arith, c .before .before .before .before .loop-test .taken)) (c .before .usable-edges-bound .ensures) (omega (arith, c .if1 .taken))
 
 add-k : tie.Need-add-k Inv-loop μ-loop
 add-k c = omega arith
@@ -51,7 +49,7 @@ loop-less c = omega arith
 loop-again : tie.Need-loop-again Inv-loop μ-loop
 loop-again c =
     let a = c .before .before .before .before .before .before .before .before .args in
-    (omega arith, omega arith, leaving-next (λ k. getD (a .masks .now) k 0) (a .pieces .now) (a .index) (a .best) (a .largest) (c .before .before .before .before .before .loop .k) (c .before .usable-edges-bound .result) (c .before .before .before .before .before .loop .inv .2) (c .before .before .before .before .loop-test .taken) (c .before .usable-edges-bound .ensures) (omega arith))
+    (omega arith, omega arith, leaving-next (λ k. getD (a .masks .now) k 0) (a .pieces .now) (a .index) (a .best) (a .largest) (c .before .before .before .before .before .loop .k) (c .before .usable-edges-bound .result) (c .before .before .before .before .before .loop .inv .2) (omega (arith, c .before .before .before .before .loop-test .taken)) (c .before .usable-edges-bound .ensures) (omega arith))
 
 returns-2 : tie.Need-returns-2 Inv-loop μ-loop
 returns-2 c = let a = c .before .before .before .before .args in leaving-done (λ k. getD (a .masks .now) k 0) (a .pieces .now) (a .index) (a .best) (a .largest) (c .before .loop .k) (c .before .loop .inv .2) (omega arith)

@@ -1,7 +1,7 @@
 -- `bounds::usable_edges` meets its contract: no subtraction is cut short. Assumes nothing.
 use borrow.Author.Needs.{needs}
 use mathlib.Core.Path.{ap}
-use Prim.Native.Nat.{ℕ, _-_, _/_, _%_}
+use Prim.Native.Nat.{ℕ, _-_, _/_}
 use native.Mathlib.Nat.{mod-le}
 use native.Mathlib.Omega.{arith}
 use Rattle.bounds.specs.Bounds.{usableEdges}
