@@ -26,9 +26,6 @@ ceil-le a b n p h = let l : (a + (b - 1)) / b < suc n = div-lt-iff-lt-mul p .1 (
 pub le-ceil : (a b : ℕ) → 0 < b → a ≤ b * ceilDiv a b
 le-ceil a b p = omega (arith, div-add-mod (a + (b - 1)) b, mod-lt (a + (b - 1)) p)
 
-pub ceil-ge : (a b n : ℕ) → 0 < b → ceilDiv a b ≤ n → a ≤ b * n
-ceil-ge a b n p h = omega (arith, le-ceil a b p, mul-le-mul-left b h)
-
 -- it is never above a
 pub ceil-small : (a b : ℕ) → 0 < b → ceilDiv a b ≤ a
 ceil-small a b p = ceil-le a b a p (omega (arith, mul-le-mul-right a p))
