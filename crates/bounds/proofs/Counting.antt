@@ -26,12 +26,15 @@ module _ (f : ℕ → ℕ) (l : List ℕ) where
   abbrev pub Summing : ℕ → ℕ → Type 0
   Summing i sum = (i ≤ length l) × (sum + sumOf f (drop i l) ≡ sumOf f l)
 
+  -- at the start nothing is summed
   pub summing-start : Summing 0 0
   summing-start = (omega arith, omega arith)
 
+  -- the next element
   sum-next : (i : ℕ) → i < length l → sumOf f (drop i l) ≡ f (getD l i 0) + sumOf f (drop (i + 1) l)
   sum-next i h = rw (drop-cons l i 0 h, add-one i)
 
+  -- it is added
   pub summing-next : (i sum x : ℕ) → Summing i sum → i < length l → x ≡ f (getD l i 0) → Summing (i + 1) (sum + x)
   summing-next i sum x s h e = (omega arith, omega (arith, s .1, sum-next i h))
 
@@ -39,6 +42,7 @@ module _ (f : ℕ → ℕ) (l : List ℕ) where
   pub summing-fits : (i sum x : ℕ) → Summing i sum → i < length l → x ≡ f (getD l i 0) → sum + x ≤ sumOf f l
   summing-fits i sum x s h e = omega (arith, s .1, sum-next i h)
 
+  -- past the last, the sum is whole
   pub summing-done : (i sum : ℕ) → Summing i sum → length l ≤ i → sum ≡ sumOf f l
   summing-done i sum s h = omega (arith, s .1, ap (sumOf f) (drop-of-length-le l h))
 
@@ -47,6 +51,7 @@ pub sum-small : (f : ℕ → ℕ) (n : ℕ) (l : List ℕ) → ((i : ℕ) → i 
 sum-small f n [] h = omega arith
 sum-small f n (x ∷ l) h = omega (arith, h 0 (omega arith), sum-small f n l (λ i k. h (suc i) (omega arith)), mul-suc n (length l))
 
+-- a sum over a mapped list
 pub sum-map : (f g : ℕ → ℕ) (l : List ℕ) → sumOf f (map g l) ≡ sumOf (λ x. f (g x)) l
 sum-map f g [] = refl
 sum-map f g (x ∷ l) = ap (λ (n : ℕ). f (g x) + n) (sum-map f g l)
@@ -58,15 +63,18 @@ module _ (pieces : List ℕ) where
   abbrev pub Sized : List ℕ → List ℕ → ℕ → Type 0
   Sized old now i = (i ≤ length pieces) × Front old now i (map size (take i pieces))
 
+  -- at the start none
   pub sized-start : (old : List ℕ) → Sized old old 0
   sized-start old = (omega arith, record { count = refl; is = refl })
 
+  -- the next piece's size is put after them
   pub sized-next : (old now : List ℕ) (i x : ℕ) → Sized old now i → i < length pieces → length pieces ≤ length old → x ≡ size (getD pieces i 0) → Sized old (set now i x) (i + 1)
   sized-next old now i x s h l e = (omega arith, rw (one e) (front-put old now i (map size (take i pieces)) x (s .1) (omega arith)))
     where
       one : x ≡ size (getD pieces i 0) → map size (take (i + 1) pieces) ≡ map size (take i pieces) ++ (x ∷ [])
       one e = rw (add-one i, take-suc pieces i 0 h, e) (map-append size (take i pieces) (getD pieces i 0 ∷ []))
 
+  -- past the last, all stand there
   pub sized-done : (old now : List ℕ) (i : ℕ) → Sized old now i → length pieces ≤ i → take (length pieces) now ≡ map size pieces
   sized-done old now i s h =
       let e : i ≡ length pieces = omega arith in
@@ -98,20 +106,25 @@ module _ (pieces : List ℕ) (largest : ℕ) where
   abbrev pub Reached : ℕ → ℕ → Type 0
   Reached t best = max best (maxOf (intTerm ceilLog2 pieces) (numbersFrom t ((largest + 1) - t))) ≡ intBound ceilLog2 pieces largest
 
+  -- at the start no term is met
   pub reached-start : Reached 2 0
   unfolding intBound
   reached-start = let e : (largest + 1) - 2 ≡ largest - 1 = omega arith in rw e (omega arith)
 
+  -- the next term
   turn : (t : ℕ) → t ≤ largest → maxOf (intTerm ceilLog2 pieces) (numbersFrom t ((largest + 1) - t)) ≡ max (intTerm ceilLog2 pieces t) (maxOf (intTerm ceilLog2 pieces) (numbersFrom (t + 1) ((largest + 1) - (t + 1))))
   unfolding numbersFrom
   turn t h = let e : (largest + 1) - t ≡ suc ((largest + 1) - (t + 1)) = omega arith in rw (e, add-one t)
 
+  -- a larger term is kept
   pub reached-more : (t best x : ℕ) → Reached t best → t ≤ largest → x ≡ intTerm ceilLog2 pieces t → best < x → Reached (t + 1) x
   reached-more t best x r h e l = omega (arith, turn t h)
 
+  -- any other is not
   pub reached-same : (t best x : ℕ) → Reached t best → t ≤ largest → x ≡ intTerm ceilLog2 pieces t → x ≤ best → Reached (t + 1) best
   reached-same t best x r h e l = omega (arith, turn t h)
 
+  -- past the last, the largest is found
   pub reached-done : (t best : ℕ) → Reached t best → largest < t → best ≡ intBound ceilLog2 pieces largest
   unfolding numbersFrom
   reached-done t best r h =
@@ -126,6 +139,7 @@ pub usable-small : (k w f p : ℕ) → w < 2 ^ 64 → usableEdges k (size (bitAn
 unfolding usableEdges
 usable-small k w f p h = omega (arith, size-le 64 (bitAnd p w) (omega (arith, and-le-r p w)))
 
+-- and all pieces
 pub usable-bound-small : (w f : ℕ) (pieces : List ℕ) (k : ℕ) → w < 2 ^ 64 → usableEdgesBound ceilLog2 w f pieces k ≤ 64 * length pieces
 unfolding usableEdgesBound
 usable-bound-small w f pieces k h =
@@ -138,10 +152,12 @@ module _ (mask : ℕ → ℕ) (pieces : List ℕ) (index best largest : ℕ) whe
   abbrev pub Leaving : ℕ → Type 0
   Leaving k = firstFrom (λ k. not (leftOut ceilLog2 mask pieces index best k)) k ((largest + 1) - k) ≡ leastSize ceilLog2 mask pieces index best largest
 
+  -- at the start all are left
   pub leaving-start : Leaving 2
   unfolding leastSize
   leaving-start = ap (firstFrom (λ k. not (leftOut ceilLog2 mask pieces index best k)) 2) (omega arith)
 
+  -- a size that is not left out is the first
   pub leaving-found : (k bound : ℕ) → Leaving k → k ≤ largest → bound ≡ usableEdgesBound ceilLog2 (mask 2) (mask k) pieces k → index < bound + best
       → k ≡ leastSize ceilLog2 mask pieces index best largest
   unfolding firstFrom leftOut
@@ -150,6 +166,7 @@ module _ (mask : ℕ → ℕ) (pieces : List ℕ) (index best largest : ℕ) whe
       let t : leb (usableEdgesBound ceilLog2 (mask 2) (mask k) pieces k + best) index ≡ false = lt-leb (usableEdgesBound ceilLog2 (mask 2) (mask k) pieces k + best) index (omega arith) in
       rw (n, firstFrom, t) at s
 
+  -- one that is left out is passed
   pub leaving-next : (k bound : ℕ) → Leaving k → k ≤ largest → bound ≡ usableEdgesBound ceilLog2 (mask 2) (mask k) pieces k → bound + best ≤ index → Leaving (k + 1)
   unfolding firstFrom leftOut
   leaving-next k bound s h e l =
@@ -157,6 +174,7 @@ module _ (mask : ℕ → ℕ) (pieces : List ℕ) (index best largest : ℕ) whe
       let t : leb (usableEdgesBound ceilLog2 (mask 2) (mask k) pieces k + best) index ≡ true = le-leb (usableEdgesBound ceilLog2 (mask 2) (mask k) pieces k + best) index (omega arith) in
       rw (add-one k) (rw (n, firstFrom, t) at s)
 
+  -- past the last, all are left out
   pub leaving-done : (k : ℕ) → Leaving k → largest < k → k ≡ leastSize ceilLog2 mask pieces index best largest
   unfolding firstFrom
   leaving-done k s h = let n : (largest + 1) - k ≡ 0 = omega arith in rw (n, firstFrom) at s

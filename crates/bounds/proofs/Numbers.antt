@@ -66,6 +66,7 @@ log-digits t p l =
 
 -- ---- sums over a list
 
+-- over two lists, one after the other
 pub sum-append : {A : Type 0} (f : A → ℕ) (l m : List A) → sumOf f (l ++ m) ≡ sumOf f l + sumOf f m
 sum-append f [] m = omega arith
 sum-append f (x ∷ l) m = omega (arith, sum-append f l m)
@@ -93,10 +94,12 @@ mem-sum f (q ∷ l) p i = let r = mem-sum f l p in ⊎-elim (λ e. omega (arith,
 
 -- ---- the largest value over a list: an upper bound, and the least one
 
+-- no value is above it
 pub le-max : {A : Type 0} (f : A → ℕ) (l : List A) (x : A) → List·Memᴰ x l → f x ≤ maxOf f l
 le-max f [] x i = absurd (List·Memᴰ·not-nil i)
 le-max f (y ∷ l) x i = let r = le-max f l x in ⊎-elim (λ e. omega (arith, ap f e)) (λ t. omega (arith, r t)) (List·Memᴰ·cases-cons i)
 
+-- it is at most what no value is above
 pub max-le : {A : Type 0} (f : A → ℕ) (l : List A) (n : ℕ) → ((x : A) → List·Memᴰ x l → f x ≤ n) → maxOf f l ≤ n
 max-le f [] n h = omega arith
 max-le f (x ∷ l) n h = omega (arith, h x (List·Memᴰ·head refl), max-le f l n (λ y i. h y (List·Memᴰ·tail i)))
@@ -112,6 +115,7 @@ max-reached {A} f (x ∷ l) h = go (decLe (maxOf f l) (f x)) (max-reached f l)
 
 -- ---- the members of a range
 
+-- each number of the range is one
 pub mem-numbers : (k n i : ℕ) → k ≤ i → i < k + n → List·Memᴰ i (numbersFrom k n)
 unfolding numbersFrom
 mem-numbers k zero i a b = absurd (omega arith)
@@ -121,6 +125,7 @@ mem-numbers k (suc n) i a b = go (ℕ-discrete i k) (mem-numbers (suc k) n i)
     go (yes e) r = List·Memᴰ·head e
     go (no d) r = List·Memᴰ·tail (r (omega arith) (omega arith))
 
+-- and there are no others
 pub numbers-range : (k n i : ℕ) → List·Memᴰ i (numbersFrom k n) → (k ≤ i) × (i < k + n)
 unfolding numbersFrom
 numbers-range k zero i m = absurd (List·Memᴰ·not-nil m)
