@@ -15,6 +15,7 @@ use Rattle.bounds.proofs.Numbers.{ceil-le, le-ceil}
 cost-up : (m T q e n : ℕ) → T - suc m * q ≤ m * e → q + e ≤ n → T + n ≤ suc m * n + q
 cost-up m T q e n h l = omega (arith, mul-le-mul-left m l)
 
+-- and back
 cost-down : (m T q n : ℕ) → suc m * q ≤ T → T + n ≤ suc m * n + q → 0 < m → (q ≤ n) × (T - suc m * q ≤ m * (n - q))
 cost-down m T q n h l p =
     let a : q ≤ n = le-of-mul-le-mul-left {k = m} (omega arith) p in
@@ -50,15 +51,17 @@ module _ (k : ℕ) (two : 2 ≤ k) where
   pub cost-spec : (T R : ℕ) → R ≤ T → T + cost k T R ≤ k * cost k T R + R / k
   cost-spec T R h = cost-iff k T R (cost k T R) two h .0 (omega arith)
 
-  -- division grows, and is superadditive
+  -- division grows
   pub div-mono : (R S : ℕ) → R ≤ S → R / k ≤ S / k
   div-mono R S h = le-div-iff-mul-le {k = k} {x = R / k} {y = S} (omega arith) .1 (omega (arith, mul-div-le R k))
 
+  -- and is superadditive
   pub div-add : (R S : ℕ) → R / k + S / k ≤ (R + S) / k
   div-add R S = le-div-iff-mul-le {k = k} {x = R / k + S / k} {y = R + S} (omega arith) .1 (omega (arith, mul-div-le R k, mul-div-le S k))
 
   -- ---- B1: two sets of bonds save no more apart than together
 
+  -- the costs
   pub cost-add : (T U R S : ℕ) → R ≤ T → S ≤ U → cost k (T + U) (R + S) ≤ cost k T R + cost k U S
   cost-add T U R S h g = cost-iff k (T + U) (R + S) (cost k T R + cost k U S) two (omega arith) .1 (omega (arith, cost-spec T R h, cost-spec U S g, div-add R S))
 
@@ -88,6 +91,7 @@ module _ (k : ℕ) (two : 2 ≤ k) where
   pub saving-one : (R : ℕ) → R ≤ 1 → saving k 1 R ≡ 0
   saving-one R h = omega (arith, saving-few 1 R h (omega arith) (omega arith))
 
+  -- nothing saves more than all
   pub saving-le : (T R : ℕ) → R ≤ T → saving k T R ≤ T
   saving-le T R h = omega (arith, saving-cost T R h)
 
@@ -96,8 +100,9 @@ module _ (k : ℕ) (two : 2 ≤ k) where
   saving-grows T U R S h g a b =
       omega (arith, saving-cost T R h, saving-cost U S g, cost-iff k U S (cost k T R + (U - T)) two g .1 (omega (arith, cost-spec T R h, div-mono R S a, mul-le-mul-left (U - T) two)))
 
-  -- ---- B3: all bonds in fragments of size k cost T / k rounded up
+  -- ---- B3: all bonds are in fragments of size k
 
+  -- each full fragment is a part
   div-le-cost : (T R : ℕ) → R / k ≤ cost k T R
   unfolding cost
   div-le-cost T R = omega arith
@@ -110,6 +115,7 @@ module _ (k : ℕ) (two : 2 ≤ k) where
       let c : n ≡ a + 1 = omega arith in
       omega (arith, ap (λ (x : ℕ). k * x) c)
 
+  -- all bonds in fragments of size k cost T / k rounded up
   pub cost-all : (T : ℕ) → cost k T T ≡ ceilDiv T k
   cost-all T = omega (arith, low, high)
     where
@@ -123,5 +129,6 @@ module _ (k : ℕ) (two : 2 ≤ k) where
       high : ceilDiv T k ≤ cost k T T
       high = ceil-le T k (cost k T T) (omega arith) (omega (arith, cost-spec T T (omega arith), div-le-cost T T))
 
+  -- and save the rest
   pub saving-all : (T : ℕ) → saving k T T ≡ T - ceilDiv T k
   saving-all T = omega (arith, saving-cost T T (omega arith), cost-all T)

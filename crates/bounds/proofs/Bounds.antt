@@ -9,11 +9,11 @@ use lib.Bits.{bitAnd, and-self}
 use Rattle.bitset.specs.Bits.{Sub, size}
 use Rattle.bitset.proofs.Laws.{sub-trans}
 use Rattle.molecule.specs.Lists.{numbersFrom}
-use Rattle.bounds.specs.Numbers.{sumOf, maxOf, ceilDiv}
+use Rattle.bounds.specs.Numbers.{sumOf, ceilDiv}
 use Rattle.bounds.specs.Bounds.{usableEdges, intTerm, intBound, usableEdgesBound}
 use Rattle.bounds.specs.Saving.{cost, saving}
 use Rattle.bounds.specs.Chain.{LowerBound}
-use Rattle.bounds.specs.Removals.{Within, whole, Removal, Step, Series, savings, AllFit, gain, AllMost, Falls}
+use Rattle.bounds.specs.Removals.{Within, whole, Removal, Series, savings, AllFit, gain, AllMost, Falls}
 use Rattle.bounds.specs.Removals.Series.{done, next}
 use Rattle.bounds.proofs.Numbers.{sum-same, sum-le, mem-sum, le-max, max-le, max-reached, mem-numbers, numbers-range}
 use Rattle.bounds.proofs.BoundLaws.{saving-cost, saving-grows, saving-full, saving-le, cost-all, cost-pos, cost-self}

@@ -1,7 +1,7 @@
 -- Addition chains: ceiling log2 is a lower bound of their lengths, and how a chain grows. Assumes nothing.
 use mathlib.Core.Path.{_≡_, refl, ap, _∙_}
-use mathlib.Core.Logic.{_⊎_, inl, inr, ⊎-elim}
-use mathlib.Core.List.{List, [], _∷_, List·Memᴰ, List·Memᴰ·cases-cons, List·Memᴰ·not-nil, List·Memᴰ·head, List·Memᴰ·tail, Memᴰ·cast}
+use mathlib.Core.Logic.{inl, inr, ⊎-elim}
+use mathlib.Core.List.{List, [], _∷_, List·Memᴰ·cases-cons, List·Memᴰ·not-nil, List·Memᴰ·head, List·Memᴰ·tail, Memᴰ·cast}
 use Prim.Native.Nat.{ℕ, zero, suc, _+_, _^_, _≤_, _<_}
 use native.Mathlib.Nat.{pow-suc}
 use native.Mathlib.Omega.{arith}
@@ -9,7 +9,7 @@ use lib.Pow.{pow-pos}
 use lib.ListN.{length}
 use Rattle.molecule.specs.Lists.{firstFrom}
 use Rattle.bounds.specs.Numbers.{ceilLog2}
-use Rattle.bounds.specs.Chain.{Known, Sum, Chain, LowerBound}
+use Rattle.bounds.specs.Chain.{Known, Chain, LowerBound}
 use Rattle.bounds.proofs.Numbers.{log-least}
 
 -- ---- what a list knows
@@ -18,13 +18,16 @@ use Rattle.bounds.proofs.Numbers.{log-least}
 abbrev pub Extends : List ℕ → List ℕ → Type 0
 Extends L M = (n : ℕ) → Known L n → Known M n
 
+-- a longer list knows no less
 pub known-tail : (L : List ℕ) (x n : ℕ) → Known L n → Known (x ∷ L) n
 known-tail L x n (inl e) = inl e
 known-tail L x n (inr m) = inr (List·Memᴰ·tail m)
 
+-- and its new entry
 pub known-head : (L : List ℕ) (x : ℕ) → Known (x ∷ L) x
 known-head L x = inr (List·Memᴰ·head refl)
 
+-- by an equal number
 pub known-cast : (L : List ℕ) (a b : ℕ) → a ≡ b → Known L b → Known L a
 known-cast L a b e (inl o) = inl (e ∙ o)
 known-cast L a b e (inr m) = inr (Memᴰ·cast e m)
@@ -60,9 +63,11 @@ pub record Longer (L : List ℕ) (j : ℕ) (M : List ℕ) : Type 0 where
   pub holds : Extends L M
   pub by : length M ≡ j + length L
 
+-- no entry more
 pub longer-none : (L : List ℕ) → Chain L → Longer L 0 L
 longer-none L c = record { chain = c; holds = λ n k. k; by = omega arith }
 
+-- one after the other
 pub longer-trans : {L M N : List ℕ} {i j : ℕ} (n : ℕ) → n ≡ i + j → Longer L i M → Longer M j N → Longer L n N
 longer-trans n e p q = record { chain = q .chain; holds = λ m k. q .holds m (p .holds m k); by = omega (arith, p .by, q .by) }
 

@@ -1,6 +1,6 @@
 -- Values by computing, and one removal from four bonds in a row. Assumes nothing.
 use mathlib.Core.Path.{_≡_, refl}
-use mathlib.Core.List.{List, [], _∷_, map, List·Memᴰ·head, Permᴰ·refl, flatten}
+use mathlib.Core.List.{[], _∷_, map, List·Memᴰ·head, Permᴰ·refl, flatten}
 use Prim.Native.Nat.{ℕ, _≤_}
 use lib.Dec.{lit≤}
 use lib.ListN.{getD}
@@ -9,7 +9,7 @@ use Rattle.molecule.specs.Lists.{firstFrom, numbersFrom}
 use Rattle.bounds.specs.Numbers.{ceilLog2}
 use Rattle.bounds.specs.Bounds.{usableEdges, intTerm, intBound, usableEdgesBound, leftOut, leastSize}
 use Rattle.bounds.specs.Saving.{saving}
-use Rattle.bounds.specs.Removals.{Removal, Step, Series, savings}
+use Rattle.bounds.specs.Removals.{Step, savings}
 use Rattle.bounds.specs.Removals.Series.{done, next}
 use Rattle.bounds.proofs.ChainLaws.{log-bound}
 use Rattle.bounds.proofs.Steps.{step-of}

@@ -4,10 +4,12 @@ use mathlib.Core.Logic.{_⊎_, inl, inr, ⊎-elim}
 use mathlib.Core.Bool.{true≢false}
 use mathlib.Core.List.{List, [], _∷_, _++_, List·Memᴰ, List·Memᴰ·cases-cons, List·Memᴰ·not-nil, List·Memᴰ·head, List·Memᴰ·tail, List·Permᴰ, List·Permᴰ·nil, List·Permᴰ·cons, List·Permᴰ·swap, List·Permᴰ·trans}
 use Prim.Native.Nat.{ℕ, zero, suc, _+_, _-_, _*_, _/_, _^_, _≤_, _<_, max}
-use native.Mathlib.Nat.{div-lt-iff-lt-mul, div-add-mod, mod-lt, mul-le-mul-left}
+use native.Mathlib.Nat.{div-lt-iff-lt-mul, div-add-mod, mod-lt, mul-le-mul-left, mul-le-mul-right, add-div-right, pow-suc}
 use native.Mathlib.Decide.{decLt, decLe, ℕ-discrete}
 use native.Mathlib.Omega.{arith}
+use lib.Count.{leadingZeros, leading-length}
 use lib.Dec.{leb}
+use lib.Pow.{pow-mono}
 use borrow.Author.Tests.{leb-true, le-leb}
 use Rattle.bitset.proofs.Laws.{lt-pow}
 use Rattle.molecule.specs.Lists.{first, numbersFrom}
@@ -24,8 +26,13 @@ ceil-le a b n p h = let l : (a + (b - 1)) / b < suc n = div-lt-iff-lt-mul p .1 (
 pub le-ceil : (a b : ℕ) → 0 < b → a ≤ b * ceilDiv a b
 le-ceil a b p = omega (arith, div-add-mod (a + (b - 1)) b, mod-lt (a + (b - 1)) p)
 
-pub ceil-ge : (a b n : ℕ) → 0 < b → ceilDiv a b ≤ n → a ≤ b * n
-ceil-ge a b n p h = omega (arith, le-ceil a b p, mul-le-mul-left b h)
+-- it is never above a
+pub ceil-small : (a b : ℕ) → 0 < b → ceilDiv a b ≤ a
+ceil-small a b p = ceil-le a b a p (omega (arith, mul-le-mul-right a p))
+
+-- for some bonds it is one more than the quotient of one fewer
+pub ceil-up : (a b : ℕ) → 0 < a → 0 < b → (a - 1) / b + 1 ≡ ceilDiv a b
+ceil-up a b p q = let e : a + (b - 1) ≡ (a - 1) + b = omega arith in rw e (omega (arith, add-div-right (a - 1) q))
 
 -- ---- ceiling log2: the least e with t ≤ 2 ^ e
 
@@ -47,8 +54,19 @@ log-least t e h = go (decLt e (first (λ e. leb t (2 ^ e)) t))
     go (yes l) = absurd (true≢false (sym (le-leb t (2 ^ e) h) ∙ first-before (λ e. leb t (2 ^ e)) t e l))
     go (no n) = omega arith
 
+-- the number of digits of t - 1
+pub log-digits : (t : ℕ) → 0 < t → t < 2 ^ 32 → 32 - leadingZeros 32 (t - 1) ≡ ceilLog2 t
+log-digits t p l =
+    let w = leading-length 32 (t - 1) (omega arith) in
+    omega (arith, w .1, log-least t (w .0) (omega (arith, w .2)), low (w .0) (w .3) (decLt (ceilLog2 t) (w .0)))
+  where
+    low : (m : ℕ) → 2 ^ m ≤ 2 * (t - 1) + 1 → Dec (ceilLog2 t < m) → m ≤ ceilLog2 t
+    low m h (yes a) = absurd (omega (arith, log-le t, pow-suc 2 (ceilLog2 t), pow-mono {i = suc (ceilLog2 t)} {j = m} (omega arith)))
+    low m h (no n) = omega arith
+
 -- ---- sums over a list
 
+-- over two lists, one after the other
 pub sum-append : {A : Type 0} (f : A → ℕ) (l m : List A) → sumOf f (l ++ m) ≡ sumOf f l + sumOf f m
 sum-append f [] m = omega arith
 sum-append f (x ∷ l) m = omega (arith, sum-append f l m)
@@ -76,10 +94,12 @@ mem-sum f (q ∷ l) p i = let r = mem-sum f l p in ⊎-elim (λ e. omega (arith,
 
 -- ---- the largest value over a list: an upper bound, and the least one
 
+-- no value is above it
 pub le-max : {A : Type 0} (f : A → ℕ) (l : List A) (x : A) → List·Memᴰ x l → f x ≤ maxOf f l
 le-max f [] x i = absurd (List·Memᴰ·not-nil i)
 le-max f (y ∷ l) x i = let r = le-max f l x in ⊎-elim (λ e. omega (arith, ap f e)) (λ t. omega (arith, r t)) (List·Memᴰ·cases-cons i)
 
+-- it is at most what no value is above
 pub max-le : {A : Type 0} (f : A → ℕ) (l : List A) (n : ℕ) → ((x : A) → List·Memᴰ x l → f x ≤ n) → maxOf f l ≤ n
 max-le f [] n h = omega arith
 max-le f (x ∷ l) n h = omega (arith, h x (List·Memᴰ·head refl), max-le f l n (λ y i. h y (List·Memᴰ·tail i)))
@@ -95,6 +115,7 @@ max-reached {A} f (x ∷ l) h = go (decLe (maxOf f l) (f x)) (max-reached f l)
 
 -- ---- the members of a range
 
+-- each number of the range is one
 pub mem-numbers : (k n i : ℕ) → k ≤ i → i < k + n → List·Memᴰ i (numbersFrom k n)
 unfolding numbersFrom
 mem-numbers k zero i a b = absurd (omega arith)
@@ -104,6 +125,7 @@ mem-numbers k (suc n) i a b = go (ℕ-discrete i k) (mem-numbers (suc k) n i)
     go (yes e) r = List·Memᴰ·head e
     go (no d) r = List·Memᴰ·tail (r (omega arith) (omega arith))
 
+-- and there are no others
 pub numbers-range : (k n i : ℕ) → List·Memᴰ i (numbersFrom k n) → (k ≤ i) × (i < k + n)
 unfolding numbersFrom
 numbers-range k zero i m = absurd (List·Memᴰ·not-nil m)

@@ -97,20 +97,23 @@ and-split p a W h =
       ap size (sets (sub (v 1) (v 0) ∷ []) (is (and (and (v 0) (v 2)) (v 1)) (and (v 1) (v 2))) (p ∷ a ∷ W ∷ []) tt h),
     )
 
--- counts within F and W: of a smaller set, and of a part, no more
+-- no more within F than within W
 pub and-sub : (p F W : ℕ) → Sub F W → size (bitAnd p F) ≤ size (bitAnd p W)
 and-sub p F W h = size-mono (bitAnd p F) (bitAnd p W) (sets (sub (v 1) (v 2) ∷ []) (sub (and (v 0) (v 1)) (and (v 0) (v 2))) (p ∷ F ∷ W ∷ []) tt h)
 
+-- and no more within W than at all
 pub and-le : (p W : ℕ) → size (bitAnd p W) ≤ size p
 and-le p W = size-mono (bitAnd p W) p (sets [] (sub (and (v 0) (v 1)) (v 0)) (p ∷ W ∷ []) tt)
 
 -- ---- decisions
 
+-- two decisions, both
 dec-both : {A B : Type 0} → Dec A → Dec B → Dec (A × B)
 dec-both (yes a) (yes b) = yes (a, b)
 dec-both (yes a) (no n) = no (λ w. n (w .1))
 dec-both (no n) d = no (λ w. n (w .0))
 
+-- and either
 dec-either : {A B : Type 0} → Dec A → Dec B → Dec (A ⊎ B)
 dec-either (yes a) d = yes (inl a)
 dec-either (no n) (yes b) = yes (inr b)
@@ -265,7 +268,7 @@ module _ (k F W : ℕ) (two : 2 ≤ k) (within : Sub F W) where
 
   -- ---- one removal
 
-  -- a fragment that fits is small, the first and the second of a removal
+  -- a fragment that fits is small
   pub fragment-small : (h : ℕ) → 2 ≤ size h → size h ≤ k → Sub h W → (size h ≡ k → Sub h F) → Small k F W h
   fragment-small h o m w f = record { some = omega arith; fits = go (decLt (size h) k) }
     where
@@ -273,9 +276,11 @@ module _ (k F W : ℕ) (two : 2 ≤ k) (within : Sub F W) where
       go (yes l) = inl (l, w)
       go (no n) = let e : size h ≡ k = omega (arith, n) in inr (e, f e)
 
+  -- so is the first of a removal
   pub first-small : {P Q : List ℕ} (m : Removal) → Step P m Q → Fits k F W m → Small k F W (m .first)
   first-small m st f = fragment-small (m .first) (st .two) (f .most) (f .first-in) (f .full-first)
 
+  -- and the second
   pub second-small : {P Q : List ℕ} (m : Removal) → Step P m Q → Fits k F W m → Small k F W (m .second)
   second-small m st f =
       fragment-small (m .second) (omega (arith, st .two, st .same)) (omega (arith, f .most, st .same)) (f .second-in) (λ e. f .full-second (omega (arith, st .same)))

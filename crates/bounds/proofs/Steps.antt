@@ -26,6 +26,7 @@ same-diff p h = sets (apart (v 0) (v 1) ∷ []) (is (less (v 0) (v 1)) (v 0)) (p
 pub apart-sub : (p q h : ℕ) → Disjoint p q → Sub h q → Disjoint p h
 apart-sub p q h = sets (apart (v 0) (v 1) ∷ sub (v 2) (v 1) ∷ []) (apart (v 0) (v 2)) (p ∷ q ∷ h ∷ []) tt
 
+-- apart is symmetric
 pub apart-sym : (p q : ℕ) → Disjoint p q → Disjoint q p
 apart-sym p q = sets (apart (v 0) (v 1) ∷ []) (apart (v 1) (v 0)) (p ∷ q ∷ []) tt
 
@@ -56,6 +57,7 @@ put-back h (x ∷ P) (l ∷ ls) o a p i s w = go (List·Memᴰ·cases-cons i) (�
 
 -- ---- the form by which code removes
 
+-- pieces that are apart are so without h
 apart-diff : (h : ℕ) (P : List ℕ) → Apart P → Apart (map (λ (x : ℕ). diff x h) P)
 apart-diff h [] a = tt
 apart-diff h (p ∷ P) a = (λ q i. others P q i (a .0), apart-diff h P (a .1))
@@ -68,10 +70,12 @@ apart-diff h (p ∷ P) a = (λ q i. others P q i (a .0), apart-diff h P (a .1))
         step (inl e) r = rw e (sets (apart (v 0) (v 1) ∷ []) (apart (less (v 0) (v 2)) (less (v 1) (v 2))) (p ∷ x ∷ h ∷ []) tt (d x (List·Memᴰ·head refl)))
         step (inr t) r = r t
 
+-- a member's value
 mem-map : (f : ℕ → ℕ) (P : List ℕ) (p : ℕ) → List·Memᴰ p P → List·Memᴰ (f p) (map f P)
 mem-map f [] p i = absurd (List·Memᴰ·not-nil i)
 mem-map f (x ∷ P) p i = ⊎-elim (λ e. List·Memᴰ·head (ap f e)) (λ t. List·Memᴰ·tail (mem-map f P p t)) (List·Memᴰ·cases-cons i)
 
+-- one map after another
 map-map : (f g : ℕ → ℕ) (P : List ℕ) → map g (map f P) ≡ map (λ (x : ℕ). g (f x)) P
 map-map f g [] = refl
 map-map f g (x ∷ P) = ap (λ (l : List ℕ). g (f x) ∷ l) (map-map f g P)
@@ -129,16 +133,19 @@ splits-size (p ∷ P) [] w = absurd w
 splits-size (p ∷ P) (l ∷ ls) w = omega (arith, sum-append size l (flatten ls), split-size l p (w .0), splits-size P ls (w .1))
 
 module _ {P Q : List ℕ} {m : Removal} (st : Step P m Q) where
-  -- both fragments, and every piece that is left, lie in pieces
+  -- the first fragment lies in a piece
   pub step-first : Inside (m .first) P
   step-first = let w = splits-mem P (st .parts) (m .first) (st .splits) (mem-perm (Permᴰ·symm (st .found)) (List·Memᴰ·head refl)) in (w .0, w .1, w .2)
 
+  -- and the second
   pub step-second : Inside (m .second) P
   step-second = let w = splits-mem P (st .parts) (m .second) (st .splits) (mem-perm (Permᴰ·symm (st .found)) (List·Memᴰ·tail (List·Memᴰ·head refl))) in (w .0, w .1, w .2)
 
+  -- and each part that is left
   rest-inside : (a : ℕ) → List·Memᴰ a (st .rest) → Inside a P
   rest-inside a i = let w = splits-mem P (st .parts) a (st .splits) (mem-perm (Permᴰ·symm (st .found)) (List·Memᴰ·tail (List·Memᴰ·tail i))) in (w .0, w .1, w .2)
 
+  -- and so every piece that is left
   pub step-inside : (q : ℕ) → List·Memᴰ q Q → Inside q P
   step-inside q i =
       ⊎-elim (λ e. let w = step-first in (w .0, w .1, rw e (w .2))) (λ t. rest-inside q (mem-big (st .rest) q t)) (List·Memᴰ·cases-cons (mem-perm (st .left) i))
@@ -175,6 +182,7 @@ split-apart [] p h = tt
 split-apart (a ∷ l) p h =
     (λ b i. sets (sub (v 1) (less (v 2) (v 0)) ∷ []) (apart (v 0) (v 1)) (a ∷ b ∷ p ∷ []) tt (split-mem l (diff p a) b (h .2) i .0), split-apart l (diff p a) (h .2))
 
+-- two lists, each apart, and apart from each other
 pub apart-append : (l m : List ℕ) → Apart l → Apart m → ((a b : ℕ) → List·Memᴰ a l → List·Memᴰ b m → Disjoint a b) → Apart (l ++ m)
 apart-append [] m x y d = y
 apart-append (a ∷ l) m x y d =
@@ -222,6 +230,7 @@ whole-within (p ∷ P) q i =
     (λ t. sub-trans q (whole P) (bitOr p (whole P)) (whole-within P q t) (sets [] (sub (v 1) (or (v 0) (v 1))) (p ∷ whole P ∷ []) tt))
     (List·Memᴰ·cases-cons i)
 
+-- apart from each is apart from the union
 apart-whole : (a : ℕ) (l : List ℕ) → ((q : ℕ) → List·Memᴰ q l → Disjoint a q) → Disjoint a (whole l)
 unfolding whole
 apart-whole a [] d = sets [] (apart (v 0) none) (a ∷ []) tt
@@ -252,6 +261,7 @@ less-split : (l : List ℕ) (p : ℕ) → Split p l → sumOf (λ (a : ℕ). siz
 less-split [] p h = omega arith
 less-split (a ∷ l) p h = omega (arith, less-split l (diff p a) (h .2), size-minus p a (h .1), h .0)
 
+-- and for all pieces
 less-splits : (P : List ℕ) (ls : List (List ℕ)) → Splits P ls → sumOf (λ (a : ℕ). size a - 1) (flatten ls) ≤ sumOf (λ (a : ℕ). size a - 1) P
 unfolding flatten
 less-splits [] [] w = omega arith
@@ -259,6 +269,7 @@ less-splits [] (l ∷ ls) w = absurd w
 less-splits (p ∷ P) [] w = absurd w
 less-splits (p ∷ P) (l ∷ ls) w = omega (arith, sum-append (λ (a : ℕ). size a - 1) l (flatten ls), less-split l p (w .0), less-splits P ls (w .1))
 
+-- without single bonds
 less-big : (l : List ℕ) → sumOf (λ (a : ℕ). size a - 1) (big l) ≤ sumOf (λ (a : ℕ). size a - 1) l
 less-big [] = omega arith
 less-big (a ∷ l) = let ih = less-big l in ⊎-elim (λ w. rw (w .1) (omega (arith, ih))) (λ w. rw (w .1) (omega (arith, ih))) (big-cases a l)
