@@ -3,7 +3,7 @@ use mathlib.Core.Path.{_≡_, refl, sym, ap, _∙_}
 use mathlib.Core.Logic.{_⊎_, inl, inr, _≢_}
 use mathlib.Core.Bool.{Bool, true, false}
 use mathlib.Core.List.{List, [], _∷_, _++_, flatMap, append-assoc, append-nil, List·Memᴰ as Mem, List·Memᴰ·head as m-head, List·Memᴰ·tail as m-tail}
-use Prim.Native.Nat.{ℕ, suc, _+_, _*_, _^_, _≤_, _<_}
+use Prim.Native.Nat.{ℕ, suc, _+_, _-_, _*_, _^_, _≤_, _<_}
 use native.Mathlib.Omega.{arith}
 use native.Mathlib.Nat.{lt-of-not-le}
 use native.Mathlib.Numerals.{add-one}
@@ -24,8 +24,8 @@ use Rattle.molecule.proofs.Growing.{lead, rest, rest-word, rest-less, reach-one
 use Rattle.molecule.proofs.Components.{own-sub, own-word, low-in, component-self, components-words}
 use Rattle.molecule.proofs.Lists.{Front, front-length, front-put, at-mem}
 use Rattle.bounds.specs.Numbers.{sumOf}
-use Rattle.matches.specs.Table.{Pair, pair}
-use Rattle.search.specs.State.{struck, bigComponents, keep, remove}
+use Rattle.matches.specs.Table.{Pair, pair, sizeOf}
+use Rattle.search.specs.State.{State, struck, bigComponents, keep, remove, child}
 use Rattle.assembly.specs.Pieces.{big, fallen, Big, Owned, Held, Chosen}
 
 -- ---- the big components
@@ -70,6 +70,13 @@ big-room touch = parts-by (near touch) (λ s l. 2 * length (filter (λ c. leb 2 
         → 2 * length (filter (λ c. leb 2 (size c)) (lead (near touch) s ∷ parts (near touch) (rest (near touch) s))) ≤ size s
     go s n w ih (inl e) = rw e (omega (arith, rest-size touch s n w, leb-true 2 (size (lead (near touch) s)) e))
     go s n w ih (inr e) = rw e (omega (arith, rest-size touch s n w))
+
+-- what two sets have in common is as few bonds as the first
+pub common-size : (p kept : ℕ) → size (bitAnd p kept) ≤ size p
+common-size p kept = size-mono (bitAnd p kept) p (sets [] (sub (and (v 0) (v 1)) (v 0)) (p ∷ kept ∷ []) tt)
+
+pub common-room : (touch : List ℕ) (p kept : ℕ) → bitAnd p kept < 2 ^ 64 → 2 * length (big touch (bitAnd p kept)) ≤ size p
+common-room touch p kept w = omega (arith, big-room touch (bitAnd p kept) w, common-size p kept)
 
 -- by the words of the record they are its big components
 pub big-words : (bytes : Bytes) (touch pieces : List ℕ) (s : ℕ) → Owned bytes touch pieces → Own bytes s → big touch s ≡ bigComponents bytes s
@@ -245,3 +252,8 @@ pub remove-is : (bytes : Bytes) (ms : List Pair) (touch pieces : List ℕ) (m h1
 unfolding remove
 remove-is bytes ms touch pieces m h1 gone w b c =
     rw (c .first, c .both, flat-same (fallen touch gone) (λ p. bigComponents bytes (diff p gone)) pieces (λ p n. fallen-is bytes touch pieces gone p w n (b p n)))
+
+pub child-is : (bytes : Bytes) (ms : List Pair) (s : State) (held : List ℕ) (m z : ℕ) (pieces removals : List ℕ) → pieces ≡ remove bytes ms held m → removals ≡ s .removals ++ (m ∷ []) → sizeOf ms m ≡ z
+    → record { pieces = pieces; index = s .index - (z - 1); largest = z; next = m + 1; removals = removals } ≡ child bytes ms s held m
+unfolding child
+child-is bytes ms s held m z pieces removals p r e = rw (p, r, e, add-one)
