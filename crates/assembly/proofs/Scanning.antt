@@ -1,7 +1,7 @@
 -- The owners of bonds, fragments inside pieces, and a scan for the removable matches from the last down. Assumes nothing.
 use mathlib.Core.Path.{_≡_, refl, sym, ap, _∙_}
 use mathlib.Core.Logic.{_⊎_, inl, inr, _≢_, ⊎-elim}
-use mathlib.Core.Bool.{Bool, true, false, not, _&&_, true≢false, false≢true}
+use mathlib.Core.Bool.{Bool, true, false, not, _&&_, true≢false}
 use mathlib.Core.List.{List, [], _∷_, List·Memᴰ as Mem, List·Memᴰ·head as m-head, List·Memᴰ·tail as m-tail, List·Memᴰ·cases-cons as mem-cons, List·Memᴰ·not-nil as not-nil}
 use Prim.Native.Nat.{ℕ, zero, suc, _+_, _-_, _*_, _^_, _≤_, _<_, max}
 use native.Mathlib.Omega.{arith}
@@ -13,14 +13,13 @@ use lib.Seq.{drop-cons, drop-length, getD-set-same, getD-set-other}
 use lib.Bits.{bitAnd, bitOr, or-comm, or-zero-r}
 use Rattle.bitset.specs.Bits.{bit, has, Sub, Disjoint, isSub, unions, Lowest, WithoutLowest}
 use Rattle.bitset.proofs.Bools.{two}
-use Rattle.bitset.proofs.Laws.{bit-le, bit-empty, bit-diff, bit-one, bit-other, or-assoc, unions-one}
+use Rattle.bitset.proofs.Laws.{bit-le, bit-empty, bit-diff, bit-other, or-assoc, unions-one}
 use Rattle.bitset.proofs.Members.{in-or-out, sub-of, sub-in, apart-out}
 use Rattle.bitset.proofs.Decide.{sets, sub, or, v}
-use Rattle.molecule.specs.Lists.{Bytes, numbersFrom, filter, any, pick, firstFrom}
+use Rattle.molecule.specs.Lists.{Bytes, numbersFrom, any, firstFrom}
 use Rattle.molecule.specs.Connected.{Apart}
 use Rattle.molecule.proofs.Lists.{any-some, any-none, zeros-at}
 use Rattle.matches.specs.Table.{Pair, pair, sizeOf}
-use Rattle.bounds.specs.Numbers.{maxOf}
 use Rattle.search.specs.State.{struck, inside, removable, maskOf}
 use Rattle.assembly.specs.Scan.{Owners, Marked, Scanning, Told, goes}
 
@@ -161,9 +160,12 @@ module _ (words : List ℕ) (ms : List Pair) (pieces own : List ℕ) (all m : �
 -- ---- the removable matches from a number on
 
 module _ (ms : List Pair) (pieces : List ℕ) where
+  one-more : (i : ℕ) → i < length ms → length ms - i ≡ suc (length ms - suc i)
+  one-more i h = omega arith
+
   numbers-step : (i : ℕ) → i < length ms → numbersFrom i (length ms - i) ≡ i ∷ numbersFrom (suc i) (length ms - suc i)
   unfolding numbersFrom
-  numbers-step i h = let e : length ms - i ≡ suc (length ms - suc i) = omega arith in rw e
+  numbers-step i h = rw (one-more i h)
 
   pub removable-in : (bytes : Bytes) (i : ℕ) → i < length ms → goes ms pieces i ≡ true → removable bytes ms pieces i ≡ i ∷ removable bytes ms pieces (suc i)
   unfolding removable
@@ -183,22 +185,19 @@ module _ (ms : List Pair) (pieces : List ℕ) where
   unfolding maskOf unions firstFrom
   told-start i n masks e z = record {
     masked = λ bytes k h. rw (z, removable-end bytes i e) (zeros-at n k);
-    tallest = λ bytes. rw (removable-end bytes i e);
+    largest = λ bytes. rw (removable-end bytes i e);
     first = let z : length ms - i ≡ 0 = omega arith in rw z;
     after = omega arith;
     within = omega arith;
     same = λ bytes. refl;
   }
 
-  first-step : (i : ℕ) → i < length ms → length ms - i ≡ suc (length ms - suc i)
-  first-step i h = omega arith
-
   pub told-out : (i start largest : ℕ) (masks : List ℕ) → i < length ms → goes ms pieces i ≡ false → Told ms pieces (suc i) masks largest start → Told ms pieces i masks largest start
   unfolding firstFrom
   told-out i start largest masks h e w = record {
     masked = λ bytes k l. rw (removable-out bytes i h e) (w .masked bytes k l);
-    tallest = λ bytes. rw (removable-out bytes i h e) (w .tallest bytes);
-    first = rw (first-step i h, e, firstFrom) (w .first);
+    largest = λ bytes. rw (removable-out bytes i h e) (w .largest bytes);
+    first = rw (one-more i h, e, firstFrom) (w .first);
     after = omega (arith, w .after);
     within = w .within;
     same = λ bytes. w .same bytes ∙ sym (removable-out bytes i h e);
@@ -218,8 +217,8 @@ module _ (ms : List Pair) (pieces : List ℕ) where
   unfolding firstFrom
   told-in i start largest masks h e f w = record {
     masked = λ bytes k l. rw (removable-in bytes i h e) (mask-step bytes i k largest start masks f l w);
-    tallest = λ bytes. rw (removable-in bytes i h e) (ap (max (sizeOf ms i)) (w .tallest bytes));
-    first = rw (first-step i h, e, firstFrom);
+    largest = λ bytes. rw (removable-in bytes i h e) (ap (max (sizeOf ms i)) (w .largest bytes));
+    first = rw (one-more i h, e, firstFrom);
     after = omega arith;
     within = omega arith;
     same = λ bytes. refl;

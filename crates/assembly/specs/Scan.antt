@@ -23,13 +23,12 @@ pub record Marked (old now : List ℕ) (p : ℕ) : Type 0 where
   pub these : (b : ℕ) → b < 64 → bit p b ≡ 1 → getD now b 0 ≡ p
   pub others : (b : ℕ) → b < 64 → bit p b ≡ 0 → getD now b 0 ≡ getD old b 0
 
--- the words are those of the matches ms, whose fragments are not empty and have 2 to 32 bonds; own has the owners of the pieces, and all their union
+-- the words are those of the matches ms, whose fragments are not empty and of at most 32 bonds; own has the owners of the bonds of pieces, and all is their union
 pub record Scanning (words : List ℕ) (ms : List Pair) (pieces own : List ℕ) (all : ℕ) : Type 0 where
   pub recorded : Recorded words ms
   pub room : 4 * length ms ≤ length words
   pub first : (m : ℕ) → m < length ms → pair ms m .h1 ≢ 0
   pub second : (m : ℕ) → m < length ms → pair ms m .h2 ≢ 0
-  pub least : (m : ℕ) → m < length ms → 2 ≤ sizeOf ms m
   pub most : (m : ℕ) → m < length ms → sizeOf ms m ≤ 32
   pub owners : Owners pieces own
   pub whole : all ≡ unions (λ p. p) pieces
@@ -39,9 +38,9 @@ abbrev pub goes : List Pair → List ℕ → ℕ → Bool
 goes ms pieces m = inside pieces (pair ms m .h1) && inside pieces (pair ms m .h2)
 
 -- what is told of the matches from next on that are removable: for each size the bonds in them, the largest size, and the number of the first, that of the matches where there is none
-pub record Told (ms : List Pair) (pieces : List ℕ) (next : ℕ) (masks : List ℕ) (largest start : ℕ) : Type 0 where
+pub record Told (ms : List Pair) (pieces : List ℕ) (next : ℕ) (masks : List ℕ) (size start : ℕ) : Type 0 where
   pub masked : (bytes : Bytes) (k : ℕ) → k < 33 → getD masks k 0 ≡ maskOf bytes ms (removable bytes ms pieces next) k
-  pub tallest : (bytes : Bytes) → largest ≡ maxOf (sizeOf ms) (removable bytes ms pieces next)
+  pub largest : (bytes : Bytes) → size ≡ maxOf (sizeOf ms) (removable bytes ms pieces next)
   pub first : start ≡ firstFrom (goes ms pieces) next (length ms - next)
   pub after : next ≤ start
   pub within : start ≤ length ms

@@ -88,7 +88,14 @@ fn larger(x: u32, y: u32) -> u32
 }
 
 // The bonds in the removable matches from .. matches of each size go to masks. The scan goes from the last match down.
-pub fn masks(pairs: &[u64], from: usize, matches: usize, own: &[u64; 64], all: u64, masks: &mut [u64]) -> Scanned
+pub fn masks(
+    pairs: &[u64],
+    from: usize,
+    matches: usize,
+    own: &[u64; 64],
+    all: u64,
+    masks: &mut [u64],
+) -> Scanned
     requires { ⌜ (length (now masks) ≡ 33) × (from ≤ matches) × ((ms : List Pair) × (pieces : List ℕ) × Scanning (now pairs) ms pieces (now own) all × (matches ≡ length ms)) ⌝ }
     ensures long { λ r. ⌜ length (now (masks .exit)) ≡ 33 ⌝ }
     ensures told { λ r. ⌜ ((ms : List Pair) → (pieces : List ℕ) → Scanning (now (pairs .entry)) ms pieces (now (own .entry)) all → matches ≡ length ms → Told ms pieces from (now (masks .exit)) (r .largest) (r .first)) ⌝ }
@@ -107,5 +114,8 @@ pub fn masks(pairs: &[u64], from: usize, matches: usize, own: &[u64; 64], all: u
             continue;
         }
     }
-    Scanned { largest: largest, first: first }
+    Scanned {
+        largest: largest,
+        first: first,
+    }
 }

@@ -1,14 +1,9 @@
 -- `assembly::scan::is_inside` meets its contract: a piece that holds h owns its lowest bond. Assumes nothing.
 use borrow.Author.Needs.{needs}
 use mathlib.Core.Path.{_∙_}
-use native.Mathlib.Omega.{arith}
 use Rattle.assembly.proofs.Scanning.{owner-inside}
 use Rattle.assembly.proofs.scan.is_inside.Statement.{statement}
 use Rattle.assembly.proofs.scan.is_inside.Tie as tie
-use Rattle.assembly.proofs.scan.is_inside.Reads as reads
-use Rattle.assembly.proofs.scan.is_inside.Lts as lts
-use Rattle.bitset.proofs.is_subset.Reads as is-subset-reads
-use Rattle.bitset.proofs.lowest.Reads as lowest-reads
 
 lowest-requires : tie.Need-lowest-requires
 lowest-requires c κs = search needs

@@ -1,14 +1,9 @@
 -- `assembly::scan::is_removable` meets its contract: a match whose bonds are not all in pieces is not removable, else both fragments are looked at. Assumes nothing.
 use borrow.Author.Needs.{needs}
-use mathlib.Core.Path.{_≡_, sym, _∙_}
-use native.Mathlib.Omega.{arith}
+use mathlib.Core.Path.{sym, _∙_}
 use Rattle.assembly.proofs.Scanning.{scan-outside, scan-first, scan-both}
 use Rattle.assembly.proofs.scan.is_removable.Statement.{statement}
 use Rattle.assembly.proofs.scan.is_removable.Tie as tie
-use Rattle.assembly.proofs.scan.is_removable.Reads as reads
-use Rattle.assembly.proofs.scan.is_removable.Lts as lts
-use Rattle.assembly.proofs.scan.is_inside.Reads as is-inside-reads
-use Rattle.bitset.proofs.is_subset.Reads as is-subset-reads
 
 mul-is-subset : tie.Need-mul-is-subset
 mul-is-subset c = search needs

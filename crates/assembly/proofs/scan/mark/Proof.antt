@@ -1,16 +1,11 @@
 -- `assembly::scan::mark` meets its contract: all bonds of p but those left have it. Assumes nothing.
 use borrow.Author.Needs.{needs, scaled-fits}
-use Prim.Native.Nat.{_<_}
 use native.Mathlib.Omega.{arith}
 use lib.ListN.{length}
 use Rattle.bitset.specs.Bits.{size}
 use Rattle.assembly.proofs.Scanning.{Marking, marking-start, marking-next, marking-done}
 use Rattle.assembly.proofs.scan.mark.Statement.{statement}
 use Rattle.assembly.proofs.scan.mark.Tie as tie
-use Rattle.assembly.proofs.scan.mark.Reads as reads
-use Rattle.assembly.proofs.scan.mark.Lts as lts
-use Rattle.bitset.proofs.lowest.Reads as lowest-reads
-use Rattle.bitset.proofs.without_lowest.Reads as without-lowest-reads
 
 abbrev Inv-loop : tie.InvT-loop
 Inv-loop own₀ p rest₀ own rest = Marking own₀ own p rest

@@ -1,6 +1,6 @@
 -- `assembly::scan::whole` meets its contract: what is joined, with the pieces left, is the union of all. Assumes nothing.
-use borrow.Author.Needs.{needs, scaled-fits}
-use mathlib.Core.Path.{_≡_, refl}
+use borrow.Author.Needs.{needs}
+use mathlib.Core.Path.{_≡_}
 use Prim.Native.Nat.{_-_, _≤_}
 use native.Mathlib.Omega.{arith}
 use lib.ListN.{length, drop}
@@ -9,9 +9,6 @@ use Rattle.bitset.specs.Bits.{unions}
 use Rattle.assembly.proofs.Scanning.{whole-start, whole-next, whole-done}
 use Rattle.assembly.proofs.scan.whole.Statement.{statement}
 use Rattle.assembly.proofs.scan.whole.Tie as tie
-use Rattle.assembly.proofs.scan.whole.Reads as reads
-use Rattle.assembly.proofs.scan.whole.Lts as lts
-use Rattle.bitset.proofs.union.Reads as union-reads
 
 abbrev Inv-loop : tie.InvT-loop
 Inv-loop pieces all₀ i₀ all i = (i ≤ length pieces) × (bitOr all (unions (λ p. p) (drop i pieces)) ≡ unions (λ p. p) pieces)
