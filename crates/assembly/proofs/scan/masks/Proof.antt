@@ -40,7 +40,7 @@ sub-i : tie.Need-sub-i Inv-loop μ-loop
 sub-i c = omega arith
 
 is-removable-requires : tie.Need-is-removable-requires Inv-loop μ-loop
-is-removable-requires c κs = (c .before .before .before .before .before .before .before .before .pre .2 .0, c .before .before .before .before .before .before .before .before .pre .2 .1, c .before .before .before .before .before .before .before .before .pre .2 .2, within c)
+is-removable-requires c κs = (c .before .before .before .before .before .before .before .before .pre .2 .0, c .before .before .before .before .before .before .before .before .pre .2 .1, c .before .before .before .before .before .before .before .before .pre .2 .2, omega (arith, within c))
 
 mul-k : tie.Need-mul-k Inv-loop μ-loop
 mul-k c = omega (arith, place (c .before .before) 3 (omega arith), c .before .before .before .before .before .before .before .before .before .before .good .0 .1)
@@ -49,10 +49,10 @@ add-k : tie.Need-add-k Inv-loop μ-loop
 add-k c = omega (arith, place (c .before .before) 3 (omega arith), c .before .before .before .before .before .before .before .before .before .before .good .0 .1)
 
 mul-k-2 : tie.Need-mul-k-2 Inv-loop μ-loop
-mul-k-2 c = scaled-fits (4 * (c .before .before .before .loop .i - 1) + 3) (length (c .before .before .before .before .before .before .before .before .before .before .args .pairs .now)) 8 (place (c .before .before) 3 (omega arith)) (c .before .before .before .before .before .before .before .before .before .before .good .0 .1)
+mul-k-2 c = scaled-fits _ (length (c .before .before .before .before .before .before .before .before .before .before .args .pairs .now)) 8 (place (c .before .before) _ (omega arith)) (c .before .before .before .before .before .before .before .before .before .before .good .0 .1)
 
 shared-slice-read-k : tie.Need-shared-slice-read-k Inv-loop μ-loop
-shared-slice-read-k c = place (c .before .before .before) 3 (omega arith)
+shared-slice-read-k c = place (c .before .before .before) _ (omega arith)
 
 mul-union : tie.Need-mul-union Inv-loop μ-loop
 mul-union c = omega (arith, few (c .before .before .before))
@@ -67,10 +67,10 @@ add-union : tie.Need-add-union Inv-loop μ-loop
 add-union c = omega (arith, place (c .before .before .before .before) 3 (omega arith), c .before .before .before .before .before .before .before .before .before .before .before .before .good .0 .1)
 
 mul-union-3 : tie.Need-mul-union-3 Inv-loop μ-loop
-mul-union-3 c = scaled-fits (4 * (c .before .before .before .before .before .loop .i - 1) + 2) (length (c .before .before .before .before .before .before .before .before .before .before .before .before .args .pairs .now)) 8 (place (c .before .before .before .before) 2 (omega arith)) (c .before .before .before .before .before .before .before .before .before .before .before .before .good .0 .1)
+mul-union-3 c = scaled-fits _ (length (c .before .before .before .before .before .before .before .before .before .before .before .before .args .pairs .now)) 8 (place (c .before .before .before .before) _ (omega arith)) (c .before .before .before .before .before .before .before .before .before .before .before .before .good .0 .1)
 
 shared-slice-read-union : tie.Need-shared-slice-read-union Inv-loop μ-loop
-shared-slice-read-union c = place (c .before .before .before .before .before) 2 (omega arith)
+shared-slice-read-union c = place (c .before .before .before .before .before) _ (omega arith)
 
 union-requires : tie.Need-union-requires Inv-loop μ-loop
 union-requires c κs = tt
