@@ -8,7 +8,10 @@
 
 #include "pazgelk.h"
 
-enum { LINE = 4096, BUFFER = 1024 };
+enum { LINE = 4096, BUFFER = 1024, WORDS = 65536 };
+
+/* The tables that are lent, and how many words each has. */
+static uint64_t *parts, *pairs, table_words = WORDS;
 
 static int digit(int c)
 {
@@ -114,6 +117,53 @@ static int answer_label(char **words)
     return 1;
 }
 
+/* What a word of a table is filled with: never 0. */
+static uint64_t noise(size_t i)
+{
+    return (uint64_t)i * 0x9e3779b97f4a7c15u | 1;
+}
+
+static void fill(uint64_t *table, size_t words)
+{
+    for (size_t i = 0; i < words; i++)
+        table[i] = noise(i);
+}
+
+/* Ends the program where the table is not as it must be: the first words 0, those from there on as they were filled. */
+static void hold(const char *name, const uint64_t *table, size_t zeros, size_t words)
+{
+    for (size_t i = 0; i < words; i++)
+        if (table[i] != (i < zeros ? 0 : noise(i))) {
+            fflush(stdout);
+            fprintf(stderr, "word %zu of %s is %s\n", i, name, i < zeros ? "not cleared" : "touched");
+            exit(1);
+        }
+}
+
+/* matches HEX [PARTS PAIRS]: the tables are filled with a pattern, and looked at afterwards, also past the words that are lent. */
+static int answer_matches(char **words, int n)
+{
+    uint8_t record[LINE / 2];
+    uint64_t lent[2] = {table_words, table_words};
+    ssize_t length = bytes_of(words[1], record);
+    if (length < 0)
+        return 0;
+    for (int i = 2; i < n; i++)
+        if (!number_of(words[i], 10, 19, &lent[i - 2]) || lent[i - 2] > table_words)
+            return 0;
+    fill(parts, table_words);
+    fill(pairs, table_words);
+    struct pazgelk_reply reply = assembly_matches(record, (size_t)length, parts, (size_t)lent[0], pairs, (size_t)lent[1]);
+    int untouched = reply.number >= 1 && reply.number <= 6;
+    hold("parts", parts, untouched ? 0 : (size_t)lent[0], table_words);
+    hold("pairs", pairs, untouched ? 0 : (size_t)lent[1], table_words);
+    if (reply.number == 0)
+        printf("matches %llu\n", (unsigned long long)reply.place);
+    else
+        put_refused(reply);
+    return 1;
+}
+
 /* Answers a line; 0 where it cannot be read. */
 static int answer(char *line)
 {
@@ -123,11 +173,22 @@ static int answer(char *line)
         return answer_check(words);
     if (n == 4 && strcmp(words[0], "label") == 0)
         return answer_label(words);
+    if ((n == 2 || n == 4) && strcmp(words[0], "matches") == 0)
+        return answer_matches(words, n);
     return 0;
 }
 
-int main(void)
+/* lines [WORDS]: each table has so many words. */
+int main(int count, char **arguments)
 {
+    if (count > 2 || (count == 2 && !number_of(arguments[1], 10, 9, &table_words))) {
+        fprintf(stderr, "usage: %s [WORDS]\n", arguments[0]);
+        return 2;
+    }
+    parts = malloc(table_words * sizeof *parts + 1);
+    pairs = malloc(table_words * sizeof *pairs + 1);
+    if (parts == NULL || pairs == NULL)
+        return 2;
     char *line = NULL;
     size_t room = 0;
     ssize_t length;
@@ -138,5 +199,7 @@ int main(void)
             printf("unreadable %lu\n", number);
     }
     free(line);
+    free(parts);
+    free(pairs);
     return ferror(stdin) || fflush(stdout) != 0;
 }

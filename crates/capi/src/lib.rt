@@ -3,11 +3,14 @@ ghost use mathlib.Core.Path.{_≡_};
 ghost use Rattle.molecule.specs.Check.{check, number, place};
 ghost use Rattle.molecule.specs.Verdict.{numberOf, placeOf};
 ghost use Rattle.canonize.specs.Answer.{number as labelNumber, value as labelValue, labelAnswer, bufferAfter};
+ghost use lib.ListN.{length};
+ghost use Rattle.matches.specs.Counted.{number as countNumber, value as countValue, countAnswer, tableAfter};
 use canonize::Labelled;
+use matches::count::Counted;
 use molecule::Fault;
 use molecule::Verdict;
 
-// Document 01's number, 0 where there is no refusal, and its place, or for a label its length.
+// Document 01's number, 0 where there is no refusal, and its place, or for a label its length, for matches how many there are.
 #[repr(C)]
 pub struct Reply {
     pub number: u32,
@@ -61,6 +64,27 @@ pub extern "C" fn assembly_label(bytes: &[u8], set: u64, out: &mut [u8]) -> Repl
         Labelled::Buffer => Reply {
             number: 14,
             place: 0,
+        },
+    }
+}
+
+// matches.
+#[no_mangle]
+pub extern "C" fn assembly_matches(bytes: &[u8], parts: &mut [u64], pairs: &mut [u64]) -> Reply
+    ensures answer { λ r. ⌜ (r .number ≡ countNumber (countAnswer (now (bytes .entry)) (length (now (parts .entry))) (length (now (pairs .entry))))) × (r .place ≡ countValue (countAnswer (now (bytes .entry)) (length (now (parts .entry))) (length (now (pairs .entry))))) ⌝ }
+    ensures parts { λ r. ⌜ now (parts .exit) ≡ tableAfter (now (bytes .entry)) (now (parts .entry)) ⌝ }
+    ensures pairs { λ r. ⌜ now (pairs .exit) ≡ tableAfter (now (bytes .entry)) (now (pairs .entry)) ⌝ }
+{
+    match matches::count::count(bytes, parts, pairs) {
+        Counted::Count(n) => answered(n),
+        Counted::Record(fault) => turned_back(fault),
+        Counted::Parts(k) => Reply {
+            number: 9,
+            place: k,
+        },
+        Counted::Pairs(n) => Reply {
+            number: 10,
+            place: n,
         },
     }
 }

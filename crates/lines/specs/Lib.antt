@@ -1,4 +1,5 @@
 pub mod Hex
 pub mod Numbers
 pub mod Inside
+pub mod Lengths
 pub mod Words

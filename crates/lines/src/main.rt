@@ -5,6 +5,8 @@ use libc::STDIN_FILENO;
 mod check_line;
 mod hex;
 mod label_line;
+mod matches_line;
+mod noise;
 mod numbers;
 mod output;
 mod words;
@@ -20,6 +22,7 @@ pub enum Answer {
 enum Command {
     Check,
     Label,
+    Matches,
     Unknown,
 }
 
@@ -39,6 +42,9 @@ fn command_of(name: &[u8]) -> Command {
     if compare::equal(name, b"label") {
         return Command::Label;
     }
+    if compare::equal(name, b"matches") {
+        return Command::Matches;
+    }
     Command::Unknown
 }
 
@@ -48,6 +54,7 @@ fn answer_line(line: &[u8], out: &mut [u8; 4096], at: usize) -> Answer {
     match command_of(words::text(line, word)) {
         Command::Check => check_line::answer(line, word, out, at),
         Command::Label => label_line::answer(line, word, out, at),
+        Command::Matches => matches_line::answer(line, word, out, at),
         Command::Unknown => Answer::Unreadable,
     }
 }
