@@ -1,0 +1,2 @@
+-- The theory of the search's code.
+pub mod Scanning
