@@ -1,2 +1,3 @@
 -- The theory of the search's code.
+pub mod Pieces
 pub mod Scanning

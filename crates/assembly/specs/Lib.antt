@@ -1,3 +1,6 @@
--- The code's values as those of the search's definitions; a scan of the matches.
+-- The code's values as those of the search's definitions.
 pub mod Views
+pub mod Pieces
 pub mod Scan
+pub mod Stored
+pub mod Follows

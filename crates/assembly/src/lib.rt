@@ -1,3 +1,5 @@
 // The search for the least score, and score (src/state.rs, src/memoize.rs, src/assembly.rs).
+pub mod memo;
 pub mod scan;
 pub mod state;
+pub mod visit;

@@ -5,4 +5,5 @@ pub mod ChainLaws
 pub mod Savings
 pub mod Steps
 pub mod Bounds
+pub mod Counting
 pub mod Examples

@@ -4,10 +4,12 @@ use mathlib.Core.Logic.{_⊎_, inl, inr, ⊎-elim}
 use mathlib.Core.Bool.{true≢false}
 use mathlib.Core.List.{List, [], _∷_, _++_, List·Memᴰ, List·Memᴰ·cases-cons, List·Memᴰ·not-nil, List·Memᴰ·head, List·Memᴰ·tail, List·Permᴰ, List·Permᴰ·nil, List·Permᴰ·cons, List·Permᴰ·swap, List·Permᴰ·trans}
 use Prim.Native.Nat.{ℕ, zero, suc, _+_, _-_, _*_, _/_, _^_, _≤_, _<_, max}
-use native.Mathlib.Nat.{div-lt-iff-lt-mul, div-add-mod, mod-lt, mul-le-mul-left}
+use native.Mathlib.Nat.{div-lt-iff-lt-mul, div-add-mod, mod-lt, mul-le-mul-left, mul-le-mul-right, add-div-right, one-mul, pow-suc}
 use native.Mathlib.Decide.{decLt, decLe, ℕ-discrete}
 use native.Mathlib.Omega.{arith}
+use lib.Count.{leadingZeros, leading-length}
 use lib.Dec.{leb}
+use lib.Pow.{pow-mono}
 use borrow.Author.Tests.{leb-true, le-leb}
 use Rattle.bitset.proofs.Laws.{lt-pow}
 use Rattle.molecule.specs.Lists.{first, numbersFrom}
@@ -26,6 +28,14 @@ le-ceil a b p = omega (arith, div-add-mod (a + (b - 1)) b, mod-lt (a + (b - 1)) 
 
 pub ceil-ge : (a b n : ℕ) → 0 < b → ceilDiv a b ≤ n → a ≤ b * n
 ceil-ge a b n p h = omega (arith, le-ceil a b p, mul-le-mul-left b h)
+
+-- it is never above a
+pub ceil-small : (a b : ℕ) → 0 < b → ceilDiv a b ≤ a
+ceil-small a b p = ceil-le a b a p (omega (arith, mul-le-mul-right a p))
+
+-- for some bonds it is one more than the quotient of one fewer
+pub ceil-up : (a b : ℕ) → 0 < a → 0 < b → (a - 1) / b + 1 ≡ ceilDiv a b
+ceil-up a b p q = let e : a + (b - 1) ≡ (a - 1) + b = omega arith in rw e (omega (arith, add-div-right (a - 1) q))
 
 -- ---- ceiling log2: the least e with t ≤ 2 ^ e
 
@@ -46,6 +56,16 @@ log-least t e h = go (decLt e (first (λ e. leb t (2 ^ e)) t))
     go : Dec (e < first (λ e. leb t (2 ^ e)) t) → first (λ e. leb t (2 ^ e)) t ≤ e
     go (yes l) = absurd (true≢false (sym (le-leb t (2 ^ e) h) ∙ first-before (λ e. leb t (2 ^ e)) t e l))
     go (no n) = omega arith
+
+-- the number of digits of t - 1
+pub log-digits : (t : ℕ) → 0 < t → t < 2 ^ 32 → 32 - leadingZeros 32 (t - 1) ≡ ceilLog2 t
+log-digits t p l =
+    let w = leading-length 32 (t - 1) (omega arith) in
+    omega (arith, w .1, log-least t (w .0) (omega (arith, w .2)), low (w .0) (w .3) (decLt (ceilLog2 t) (w .0)))
+  where
+    low : (m : ℕ) → 2 ^ m ≤ 2 * (t - 1) + 1 → Dec (ceilLog2 t < m) → m ≤ ceilLog2 t
+    low m h (yes a) = absurd (omega (arith, log-le t, pow-suc 2 (ceilLog2 t), pow-mono {i = suc (ceilLog2 t)} {j = m} (omega arith)))
+    low m h (no n) = omega arith
 
 -- ---- sums over a list
 
