@@ -1,5 +1,6 @@
 // The search for the least score, and score (src/state.rs, src/memoize.rs, src/assembly.rs).
 pub mod memo;
+pub mod run;
 pub mod scan;
 pub mod state;
 pub mod visit;
