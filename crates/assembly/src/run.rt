@@ -5,7 +5,7 @@ ghost use Prim.Native.Nat.{_-_, _*_, _≤_};
 ghost use lib.ListN.{length};
 ghost use Rattle.molecule.specs.Record.{bonds};
 ghost use Rattle.molecule.specs.Check.{check, accepted};
-ghost use Rattle.matches.specs.Table.{pairs};
+ghost use Rattle.matches.specs.Table.{pairs as matchesOf};
 ghost use Rattle.matches.specs.Written.{Recorded};
 ghost use Rattle.search.specs.Setting.{memoRoom};
 ghost use Rattle.search.specs.Search.{search};
@@ -15,10 +15,17 @@ use crate::visit::Outcome;
 use crate::visit::Setting;
 
 // STUB of the function that another clone proves.
-pub fn run(bytes: &[u8], pairs: &[u64], matches: usize, setting: Setting, memo: &mut [u64], desk: &mut [u64]) -> Outcome
-    requires { ⌜ (check (now bytes) ≡ accepted) × Recorded (now pairs) (pairs (now bytes)) × (matches ≡ length (pairs (now bytes))) × (4 * matches ≤ length (now pairs)) × (matches ≤ 4294967295)
+pub fn run(
+    bytes: &[u8],
+    pairs: &[u64],
+    matches: usize,
+    setting: Setting,
+    memo: &mut [u64],
+    desk: &mut [u64],
+) -> Outcome
+    requires { ⌜ (check (now bytes) ≡ accepted) × Recorded (now pairs) (matchesOf (now bytes)) × (matches ≡ length (matchesOf (now bytes))) × (4 * matches ≤ length (now pairs)) × (matches ≤ 4294967295)
         × Stored (now bytes) (now memo) 0 [] × Cached (now bytes) (now desk) ⌝ }
-    ensures { λ r. ⌜ Follows (now (bytes .entry)) (bonds (now (bytes .entry)) - 1) r (now (memo .exit)) (search (now (bytes .entry)) (pairs (now (bytes .entry))) (settingOf setting) (memoRoom (length (now (memo .entry))))) ⌝ }
+    ensures { λ r. ⌜ Follows (now (bytes .entry)) (bonds (now (bytes .entry)) - 1) r (now (memo .exit)) (search (now (bytes .entry)) (matchesOf (now (bytes .entry))) (settingOf setting) (memoRoom (length (now (memo .entry))))) ⌝ }
 {
     Outcome::Halts(11, 0)
 }
