@@ -1,3 +1,4 @@
 -- The theory of the search's code.
 pub mod Pieces
 pub mod Scanning
+pub mod Scoring

@@ -4,3 +4,5 @@ pub mod Pieces
 pub mod Scan
 pub mod Stored
 pub mod Follows
+pub mod Answer
+pub mod Demand

@@ -1,6 +1,8 @@
 // The search for the least score, and score (src/state.rs, src/memoize.rs, src/assembly.rs).
+pub mod answer;
 pub mod memo;
 pub mod run;
 pub mod scan;
 pub mod state;
+pub mod trail;
 pub mod visit;
