@@ -1,39 +1,44 @@
 -- score's answer, row by row, what is lent to it afterwards, and demand 3. Assumes nothing.
-use mathlib.Core.Path.{_≡_, refl, sym, ap, _∙_}
+use mathlib.Core.Path.{_≡_, refl, sym, ap, _∙_, subst}
 use mathlib.Core.Bool.{Bool, true, false, _||_}
 use mathlib.Core.Logic.{_⊎_, inl, inr, ⊎-elim}
-use mathlib.Core.List.{List}
-use Prim.Native.Nat.{ℕ, _≤_, _<_}
+use mathlib.Core.List.{List, [], _++_}
+use Prim.Native.Nat.{ℕ, _+_, _-_, _*_, _≤_, _<_}
 use native.Mathlib.Omega.{arith}
-use lib.ListN.{length, replicate}
+use lib.ListN.{length, getD, take, drop, replicate, length-take, length-replicate}
+use lib.Seq.{take-at}
 use lib.Dec.{ltb, leb}
 use borrow.Author.Tests.{ltb-false, lt-ltb, le-ltb, le-leb, lt-leb}
 use Rattle.molecule.specs.Lists.{Bytes}
 use Rattle.molecule.specs.Check.{Answer, accepted, refused, row, rowAt, check}
 use Rattle.molecule.specs.Verdict.{numberOf, placeOf}
 use Rattle.molecule.specs.declared.Fault.{Fault}
-use Rattle.molecule.specs.declared.Fault.the-variants.{Length, Counts, Element, Code, Ends, Unreached}
+use Rattle.molecule.specs.declared.Fault.the-variants as fault
 use Rattle.molecule.proofs.Accepted.{row-next, rowAt-next}
+use Rattle.molecule.proofs.Lists.{zeros-at}
 use Rattle.matches.specs.Table.{Table, matchTable, pairs}
 use Rattle.matches.specs.Rows.{partsRoom, pairsRoom, overflows, tooMany, tableAnswer}
 use Rattle.matches.proofs.Recorded.{pairs-length}
 use Rattle.search.specs.Setting.{Setting, Room, memoRoom}
-use Rattle.search.specs.Search.{search}
+use Rattle.search.specs.Search as definition
 use Rattle.search.specs.Answer.{ScoreAnswer, scored, turnedBack, entryAnswer, searched, scoreAnswer, trailAfter, tableAfter}
-use Rattle.search.specs.Claims.{Finished}
+use Rattle.search.specs.Claims.{Ends, Finished}
 use Rattle.search.proofs.Score as score
+use Rattle.assembly.specs.declared.visit.Outcome.{Outcome}
+use Rattle.assembly.specs.Stored.{Cached, lastIn, Stored}
+use Rattle.assembly.specs.Follows.{Follows}
 use Rattle.assembly.specs.Demand.{Demand3}
 
 -- ---- rows 1 to 8
 
 -- rows 1 to 6 have numbers below 9
 fault-early : (f : Fault) → numberOf f < 9
-fault-early (Length l) = omega arith
-fault-early Counts = omega arith
-fault-early (Element v) = omega arith
-fault-early (Code i) = omega arith
-fault-early (Ends i) = omega arith
-fault-early (Unreached v) = omega arith
+fault-early (fault.Length l) = omega arith
+fault-early fault.Counts = omega arith
+fault-early (fault.Element v) = omega arith
+fault-early (fault.Code i) = omega arith
+fault-early (fault.Ends i) = omega arith
+fault-early (fault.Unreached v) = omega arith
 
 either-left : (a b : Bool) → a ≡ true → (a || b) ≡ true
 either-left a b e = rw e
@@ -132,7 +137,7 @@ module _ (r : Bytes) (setting : Setting) (room : Room) (entry : entryAnswer r se
   table-back k p e = rw (entry, e, scoreAnswer)
 
   -- the search's answer
-  pub table-built : tableAnswer (matchTable r) (room .parts) (room .pairs) ≡ accepted → scoreAnswer r setting room ≡ searched (matchTable r) (search r (pairs r) setting (memoRoom (room .memo)))
+  pub table-built : tableAnswer (matchTable r) (room .parts) (room .pairs) ≡ accepted → scoreAnswer r setting room ≡ searched (matchTable r) (definition.search r (pairs r) setting (memoRoom (room .memo)))
   unfolding scoreAnswer
   table-built e = rw (entry, e, scoreAnswer)
 
@@ -168,6 +173,78 @@ built-few r parts words ok =
     let a = rowAt-next 9 (overflows (matchTable r) (partsRoom parts)) (length (matchTable r .needs)) (row 10 (length (matchTable r .matches)) (tooMany (matchTable r) (pairsRoom words)) accepted) ok .1 in
     let b = row-next 10 (length (matchTable r .matches)) (tooMany (matchTable r) (pairsRoom words)) accepted a .0 in
     omega (arith, ltb-false (pairsRoom words) (length (matchTable r .matches)) b, pairs-length (matchTable r))
+
+-- ---- the search
+
+-- words that are all zero are an empty memo
+pub stored-zeros : (r : Bytes) (words : List ℕ) (n : ℕ) → words ≡ replicate n 0 → Stored r words 0 []
+unfolding lastIn
+stored-zeros r words n e = record {
+  count = refl;
+  fits = omega arith;
+  held = λ i h. absurd (omega arith);
+  chained = record { before = λ i h. absurd (omega arith); last = λ h l. rw e (zeros-at n (80 * h + 69)) };
+  distinct = λ i j h l. absurd (omega arith);
+}
+
+-- and a desk on which no slot says anything
+pub cached-zeros : (r : Bytes) (words : List ℕ) (n : ℕ) → words ≡ replicate n 0 → 4096 ≤ n → Cached r words
+cached-zeros r words n e h = record { wide = rw (e, length-replicate) h; hashes = λ i l f. absurd (f (zero-at (2 * i))); pairs = λ i l f. absurd (f (zero-at (2048 + 2 * i))) }
+  where
+    zero-at : (i : ℕ) → getD words i 0 ≡ 0
+    zero-at i = rw e (zeros-at n i)
+
+-- what the code's outcome says where it is that of the definition, case by case
+module _ (r : Bytes) (best : ℕ) (o : Outcome) (words : List ℕ) where
+  answer-short : (x : definition.Outcome) → Follows r best o words x → o .row ≡ 0 → o .length ≤ 32
+  answer-short (definition.answers a t run) w z = w .2
+  answer-short (definition.halts k p) w z = absurd (w .0 z)
+
+  answer-scored : (x : definition.Outcome) → Follows r best o words x → o .row ≡ 0 → length (o .trail) ≡ 32 → (t : Table) (n : ℕ) → n ≡ length (t .matches) → (old end : List ℕ)
+      → end ≡ take (o .length) (o .trail) ++ (replicate (32 - o .length) 0 ++ drop 32 old) → (scored (o .answer) n (o .states) (take (o .length) end) ≡ searched t x) × (end ≡ trailAfter (searched t x) old)
+  unfolding searched trailAfter
+  answer-scored (definition.answers a τ run) w z l t n c old end e =
+      let k : length (take (o .length) (o .trail)) ≡ o .length = simp length-take (omega (arith, w .2)) in
+      let f : take (o .length) end ≡ τ = ap (take (o .length)) e ∙ take-at (take (o .length) (o .trail)) (replicate (32 - o .length) 0 ++ drop 32 old) (o .length) k ∙ w .3 in
+      let g : o .length ≡ length τ = sym k ∙ ap length (w .3) in
+      (rw (w .1, c, w .6, f), rw (← g, ← w .3) e)
+  answer-scored (definition.halts k p) w z l t n c old end e = absurd (w .0 z)
+
+  answer-halted : (x : definition.Outcome) → Follows r best o words x → (o .row ≡ 0 → ⊥) → (t : Table) (old : List ℕ) → (turnedBack (o .row) (o .place) ≡ searched t x) × (old ≡ trailAfter (searched t x) old)
+  unfolding searched trailAfter
+  answer-halted (definition.answers a τ run) w z t old = absurd (z (w .0))
+  answer-halted (definition.halts k p) w z t old = (rw (w .1, w .2), refl)
+
+  answer-row : (setting : Setting) (x : definition.Outcome) → Follows r best o words x → Ends setting x → (o .row ≡ 0 → ⊥) → (o .row ≡ 11) ⊎ (o .row ≡ 12)
+  answer-row setting (definition.answers a τ run) w h z = absurd (z (w .0))
+  answer-row setting (definition.halts k p) w (inl h) z = inl (w .1 ∙ h .0)
+  answer-row setting (definition.halts k p) w (inr h) z = inr (w .1 ∙ h .0)
+
+-- a search with a memo table of m words, which is as long as it was
+module _ (r : Bytes) (ok : check r ≡ accepted) (setting : Setting) (best : ℕ) (o : Outcome) (words : List ℕ) (m n : ℕ) (same : m ≡ n) (found : Follows r best o words (definition.search r (pairs r) setting (memoRoom m))) where
+  follows : Follows r best o words (definition.search r (pairs r) setting (memoRoom n))
+  follows = subst (λ (k : ℕ). Follows r best o words (definition.search r (pairs r) setting (memoRoom k))) same found
+
+  module _ (zero : o .row ≡ 0) where
+    -- an answer has at most 32 removals
+    pub found-short : o .length ≤ 32
+    found-short = answer-short r best o words (definition.search r (pairs r) setting (memoRoom n)) follows zero
+
+    -- they are written into the trail: a score
+    pub found-scored : length (o .trail) ≡ 32 → (matches : ℕ) → matches ≡ length (pairs r) → (old end : List ℕ) → end ≡ take (o .length) (o .trail) ++ (replicate (32 - o .length) 0 ++ drop 32 old)
+        → (scored (o .answer) matches (o .states) (take (o .length) end) ≡ searched (matchTable r) (definition.search r (pairs r) setting (memoRoom n))) × (end ≡ trailAfter (searched (matchTable r) (definition.search r (pairs r) setting (memoRoom n))) old)
+    found-scored l matches c old end e = answer-scored r best o words (definition.search r (pairs r) setting (memoRoom n)) follows zero l (matchTable r) matches (c ∙ pairs-length (matchTable r)) old end e
+
+  -- row 11 or 12, and the trail as it was
+  module _ (some : o .row ≡ 0 → ⊥) (old : List ℕ) where
+    halted : (turnedBack (o .row) (o .place) ≡ searched (matchTable r) (definition.search r (pairs r) setting (memoRoom n))) × (old ≡ trailAfter (searched (matchTable r) (definition.search r (pairs r) setting (memoRoom n))) old)
+    halted = answer-halted r best o words (definition.search r (pairs r) setting (memoRoom n)) follows some (matchTable r) old
+
+    pub found-eleven : o .row ≡ 11 → (turnedBack 11 (o .place) ≡ searched (matchTable r) (definition.search r (pairs r) setting (memoRoom n))) × (old ≡ trailAfter (searched (matchTable r) (definition.search r (pairs r) setting (memoRoom n))) old)
+    found-eleven e = rw (← e) halted
+
+    pub found-twelve : (o .row ≡ 11 → ⊥) → (turnedBack 12 (o .place) ≡ searched (matchTable r) (definition.search r (pairs r) setting (memoRoom n))) × (old ≡ trailAfter (searched (matchTable r) (definition.search r (pairs r) setting (memoRoom n))) old)
+    found-twelve f = ⊎-elim (λ (e : o .row ≡ 11). absurd (f e)) (λ (e : o .row ≡ 12). rw (← e) halted) (answer-row r best o words setting (definition.search r (pairs r) setting (memoRoom n)) follows (score.accepted-ends r ok setting (memoRoom n)) some)
 
 -- ---- demand 3
 

@@ -1,5 +1,6 @@
 -- The outcome of the code as that of the search's definition.
 use mathlib.Core.Path.{_≡_}
+use mathlib.Core.Logic.{_≢_}
 use mathlib.Core.List.{List, List·Memᴰ}
 use Prim.Native.Nat.{ℕ, _*_, _≤_}
 use lib.ListN.{length, take}
@@ -15,7 +16,6 @@ use Rattle.search.specs.Claims.{Fine}
 use Rattle.assembly.specs.declared.state.State.{State}
 use Rattle.assembly.specs.declared.visit.Setting.{Setting}
 use Rattle.assembly.specs.declared.visit.Outcome.{Outcome}
-use Rattle.assembly.specs.declared.visit.Outcome.the-variants.{Answers, Halts}
 use Rattle.assembly.specs.Views.{stateOf}
 use Rattle.assembly.specs.Stored.{Stored}
 
@@ -42,8 +42,6 @@ pub record Entered (r : Bytes) (s : State) : Type 0 where
 
 -- the code's outcome, with the memo table's words then, is the definition's; best has not grown
 abbrev pub Follows : Bytes → ℕ → Outcome → List ℕ → search.Outcome → Type 0
-Follows r best (Answers f) words (search.answers a t run) =
-    (f .answer ≡ a) × (f .length ≤ 32) × (take (f .length) (f .trail) ≡ t) × (f .best ≡ run .best) × (f .best ≤ best) × (f .states ≡ run .states) × Stored r words (f .entries) (run .memo)
-Follows r best (Answers f) words (search.halts n p) = ⊥
-Follows r best (Halts n p) words (search.answers a t run) = ⊥
-Follows r best (Halts n p) words (search.halts k q) = (n ≡ k) × (p ≡ q)
+Follows r best o words (search.answers a t run) =
+    (o .row ≡ 0) × (o .answer ≡ a) × (o .length ≤ 32) × (take (o .length) (o .trail) ≡ t) × (o .best ≡ run .best) × (o .best ≤ best) × (o .states ≡ run .states) × Stored r words (o .entries) (run .memo)
+Follows r best o words (search.halts n p) = (o .row ≢ 0) × (o .row ≡ n) × (o .place ≡ p)

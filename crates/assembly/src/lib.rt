@@ -3,6 +3,7 @@ pub mod answer;
 pub mod memo;
 pub mod run;
 pub mod scan;
+pub mod score;
 pub mod state;
 pub mod trail;
 pub mod visit;

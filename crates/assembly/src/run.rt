@@ -27,5 +27,14 @@ pub fn run(
         × Stored (now bytes) (now memo) 0 [] × Cached (now bytes) (now desk) ⌝ }
     ensures { λ r. ⌜ Follows (now (bytes .entry)) (bonds (now (bytes .entry)) - 1) r (now (memo .exit)) (search (now (bytes .entry)) (matchesOf (now (bytes .entry))) (settingOf setting) (memoRoom (length (now (memo .entry))))) ⌝ }
 {
-    Outcome::Halts(11, 0)
+    Outcome {
+        row: 11,
+        place: 0,
+        answer: 0,
+        trail: [0u32; 32],
+        length: 0,
+        best: 0,
+        states: 0,
+        entries: 0,
+    }
 }

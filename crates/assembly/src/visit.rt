@@ -7,18 +7,14 @@ pub struct Setting {
     pub budget: u32,
 }
 
-// A state's answer and its trail, so many numbers; and best, the states entered and the memo's entries then.
-pub struct Found {
+// Row 0 with an answer and its trail, so many numbers, and best, the states entered and the memo's entries then; or row 11 or 12 with its place.
+pub struct Outcome {
+    pub row: u32,
+    pub place: u64,
     pub answer: u32,
     pub trail: [u32; 32],
     pub length: usize,
     pub best: u32,
     pub states: u32,
     pub entries: usize,
-}
-
-// An answer, or row 11 or 12 with its place.
-pub enum Outcome {
-    Answers(Found),
-    Halts(u32, u64),
 }
