@@ -18,15 +18,22 @@ use Rattle.molecule.proofs.Accepted.{row-next, rowAt-next}
 use Rattle.molecule.proofs.Lists.{zeros-at}
 use Rattle.matches.specs.Table.{Table, matchTable, pairs}
 use Rattle.matches.specs.Rows.{partsRoom, pairsRoom, overflows, tooMany, tableAnswer}
+use Rattle.matches.specs.Written.{Recorded}
+use Rattle.matches.specs.Built as built
 use Rattle.matches.proofs.Recorded.{pairs-length}
+use Rattle.matches.proofs.Answering.{counted-is, refused-is, after-room, after-recorded, after-length}
 use Rattle.search.specs.Setting.{Setting, Room, memoRoom}
 use Rattle.search.specs.Search as definition
 use Rattle.search.specs.Answer.{ScoreAnswer, scored, turnedBack, entryAnswer, searched, scoreAnswer, trailAfter, tableAfter}
 use Rattle.search.specs.Claims.{Ends, Finished}
 use Rattle.search.proofs.Score as score
+use Rattle.assembly.specs.declared.answer.Score.{Score}
+use Rattle.assembly.specs.declared.answer.Scored.{Scored}
+use Rattle.assembly.specs.declared.answer.Scored.the-variants as says
 use Rattle.assembly.specs.declared.visit.Outcome.{Outcome}
 use Rattle.assembly.specs.Stored.{Cached, lastIn, Stored}
 use Rattle.assembly.specs.Follows.{Follows}
+use Rattle.assembly.specs.Answer.{answerOf}
 use Rattle.assembly.specs.Demand.{Demand3}
 
 -- ---- rows 1 to 8
@@ -166,13 +173,32 @@ module _ (r : Bytes) (setting : Setting) (room : Room) (entry : entryAnswer r se
   pub zeros-after : (words now : List ℕ) (n : ℕ) → now ≡ replicate n 0 → n ≡ length words → now ≡ tableAfter (scoreAnswer r setting room) words
   zeros-after words now n e g = e ∙ ap (λ (k : ℕ). replicate k 0) g ∙ sym (late (scoreAnswer r setting room) back-late words)
 
+  -- turned back by the table: the row, and the trail as it was
+  pub score-table : (k p : ℕ) → built.turnedBack k p ≡ built.buildAnswer r (room .parts) (room .pairs) → (old : List ℕ) → (turnedBack k p ≡ scoreAnswer r setting room) × (old ≡ trailAfter (scoreAnswer r setting room) old)
+  unfolding trailAfter
+  score-table k p e old = let w = table-back k p (refused-is r (room .parts) (room .pairs) k p e) in (sym w, rw (w, trailAfter))
+
+  -- a table that is built: as the search ends
+  pub score-built : (n : ℕ) → built.counted n ≡ built.buildAnswer r (room .parts) (room .pairs) → (x : ScoreAnswer) (old end : List ℕ) → x ≡ searched (matchTable r) (definition.search r (pairs r) setting (memoRoom (room .memo)))
+      → end ≡ trailAfter (searched (matchTable r) (definition.search r (pairs r) setting (memoRoom (room .memo)))) old → (x ≡ scoreAnswer r setting room) × (end ≡ trailAfter (scoreAnswer r setting room) old)
+  score-built n e x old end f g = rw (table-built (counted-is r (room .parts) (room .pairs) n e .0)) (f, g)
+
 -- a table that is accepted has few matches
-pub built-few : (r : Bytes) (parts words : ℕ) → tableAnswer (matchTable r) parts words ≡ accepted → length (pairs r) ≤ 4294967295
+built-few : (r : Bytes) (parts words : ℕ) → tableAnswer (matchTable r) parts words ≡ accepted → length (pairs r) ≤ 4294967295
 unfolding tableAnswer tooMany
 built-few r parts words ok =
     let a = rowAt-next 9 (overflows (matchTable r) (partsRoom parts)) (length (matchTable r .needs)) (row 10 (length (matchTable r .matches)) (tooMany (matchTable r) (pairsRoom words)) accepted) ok .1 in
     let b = row-next 10 (length (matchTable r .matches)) (tooMany (matchTable r) (pairsRoom words)) accepted a .0 in
     omega (arith, ltb-false (pairsRoom words) (length (matchTable r .matches)) b, pairs-length (matchTable r))
+
+-- what the search is given of a table that is built
+pub built-ready : (r : Bytes) (parts : ℕ) (old now : List ℕ) (n : ℕ) → built.counted n ≡ built.buildAnswer r parts (length old) → now ≡ built.pairsAfter r parts old
+    → Recorded now (pairs r) × (n ≡ length (pairs r)) × (4 * n ≤ length now) × (n ≤ 4294967295)
+built-ready r parts old now n e f =
+    let w = counted-is r parts (length old) n e in
+    let c : n ≡ length (pairs r) = w .1 ∙ sym (pairs-length (matchTable r)) in
+    let l : length now ≡ length old = ap length f ∙ after-length r parts old (w .0) in
+    (rw f (after-recorded r parts old (w .0)), c, omega (arith, after-room r parts old (w .0)), omega (arith, built-few r parts (length old) (w .0)))
 
 -- ---- the search
 
@@ -265,3 +291,8 @@ demanded r setting room index matches states trail e = record {
   entered = score.states-some r setting room index matches states trail e;
   within = score.states-within r setting room index matches states trail e;
 }
+
+-- so it holds of what score's enum says, with the trail then
+pub demand-met : (r : Bytes) (setting : Setting) (room : Room) (x : Scored) (trail : List ℕ) → answerOf x trail ≡ scoreAnswer r setting room → (s : Score) → x ≡ says.Score s
+    → Demand3 r (setting .memo) (setting .budget) (s .index) (s .states) (take (s .length) trail)
+demand-met r setting room x trail e s f = demanded r setting room (s .index) (s .matches) (s .states) (take (s .length) trail) (sym e ∙ ap (λ (y : Scored). answerOf y trail) f)
