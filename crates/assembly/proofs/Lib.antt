@@ -2,3 +2,4 @@
 pub mod Pieces
 pub mod Scanning
 pub mod Scoring
+pub mod Starred
