@@ -1,10 +1,11 @@
 -- The outcome of the code as that of the search's definition.
 use mathlib.Core.Path.{_≡_}
 use mathlib.Core.Logic.{_≢_}
-use mathlib.Core.List.{List, List·Memᴰ}
-use Prim.Native.Nat.{ℕ, _*_, _≤_}
+use mathlib.Core.List.{List, [], List·Memᴰ}
+use Prim.Native.Nat.{ℕ, _-_, _*_, _≤_}
 use lib.ListN.{length, take}
 use Rattle.molecule.specs.Lists.{Bytes}
+use Rattle.molecule.specs.Record.{bonds}
 use Rattle.molecule.specs.Touch.{bondsAtWords, touchingWords}
 use Rattle.molecule.specs.Check.{check, accepted}
 use Rattle.molecule.specs.Connected.{Connected}
@@ -17,7 +18,7 @@ use Rattle.assembly.specs.declared.state.State.{State}
 use Rattle.assembly.specs.declared.visit.Setting.{Setting}
 use Rattle.assembly.specs.declared.visit.Outcome.{Outcome}
 use Rattle.assembly.specs.Views.{stateOf}
-use Rattle.assembly.specs.Stored.{Stored}
+use Rattle.assembly.specs.Stored.{Lent, Stored}
 
 -- the setting that the code's setting is
 abbrev pub settingOf : Setting → settings.Setting
@@ -45,3 +46,15 @@ abbrev pub Follows : Bytes → ℕ → Outcome → List ℕ → search.Outcome �
 Follows r best o words (search.answers a t run) =
     (o .row ≡ 0) × (o .answer ≡ a) × (o .length ≤ 32) × (take (o .length) (o .trail) ≡ t) × (o .best ≡ run .best) × (o .best ≤ best) × (o .states ≡ run .states) × Stored r words (o .entries) (run .memo)
 Follows r best o words (search.halts n p) = (o .row ≢ 0) × (o .row ≡ n) × (o .place ≡ p)
+
+-- and of the search
+abbrev pub Found : Bytes → Setting → ℕ → Outcome → List ℕ → Type 0
+Found r setting room o words = Follows r (bonds r - 1) o words (search.search r (pairs r) (settingOf setting) room)
+
+-- a record of n bonds, and an empty memo
+pub record Starts (r : Bytes) (at touch words : List ℕ) (matches n : ℕ) (memo desk arena lengths scratch own other : List ℕ) : Type 0 where
+  pub searched : Searched r at touch words matches
+  pub many : bonds r ≡ n
+  pub lent : Lent r at desk arena lengths scratch own
+  pub outs : 389 ≤ length other
+  pub stored : Stored r memo 0 []

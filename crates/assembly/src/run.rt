@@ -11,10 +11,13 @@ ghost use Rattle.search.specs.Setting.{memoRoom};
 ghost use Rattle.search.specs.Search.{search};
 ghost use Rattle.assembly.specs.Stored.{Cached, Stored};
 ghost use Rattle.assembly.specs.Follows.{settingOf, Follows};
+use crate::visit;
 use crate::visit::Outcome;
 use crate::visit::Setting;
+use molecule::fields;
+use molecule::graph;
 
-// STUB of the function that another clone proves.
+// The search with an empty memo and a desk on which what is said holds.
 pub fn run(
     bytes: &[u8],
     pairs: &[u64],
@@ -27,14 +30,28 @@ pub fn run(
         × Stored (now bytes) (now memo) 0 [] × Cached (now bytes) (now desk) ⌝ }
     ensures { λ r. ⌜ Follows (now (bytes .entry)) (bonds (now (bytes .entry)) - 1) r (now (memo .exit)) (search (now (bytes .entry)) (matchesOf (now (bytes .entry))) (settingOf setting) (memoRoom (length (now (memo .entry))))) ⌝ }
 {
-    Outcome {
-        row: 11,
-        place: 0,
-        answer: 0,
-        trail: [0u32; 32],
-        length: 0,
-        best: 0,
-        states: 0,
-        entries: 0,
-    }
+    let n = fields::bonds(bytes);
+    let at = graph::bonds_at(bytes);
+    let touch = graph::touching_from(bytes, &at);
+    let mut arena = [0u8; 24576];
+    let mut lengths = [0usize; 64];
+    let mut scratch = [0u8; 384];
+    let mut own = [0u8; 389];
+    let mut other = [0u8; 389];
+    visit::search(
+        bytes,
+        &at,
+        &touch,
+        pairs,
+        matches,
+        setting,
+        n,
+        memo,
+        desk,
+        &mut arena,
+        &mut lengths,
+        &mut scratch,
+        &mut own,
+        &mut other,
+    )
 }
