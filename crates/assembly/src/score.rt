@@ -1,61 +1,20 @@
 // score: the public call. Rows 1 to 6 by check, 7 and 8, then the match table (rows 9 and 10), then the search (rows 11 and 12).
 ghost use mathlib.Core.Path.{_≡_};
-ghost use Prim.Native.Nat.{_*_, _≤_};
-ghost use lib.ListN.{length, take, replicate};
+ghost use Prim.Native.Nat.{_≤_};
+ghost use lib.ListN.{length, take};
 ghost use Rattle.molecule.specs.Check.{check, accepted};
-ghost use Rattle.matches.specs.Table.{matchTable, pairs as matchesOf};
-ghost use Rattle.matches.specs.Written.{Recorded};
-ghost use Rattle.search.specs.Setting.{memoRoom};
-ghost use Rattle.search.specs.Search.{search};
-ghost use Rattle.search.specs.Answer.{searched, scoreAnswer, trailAfter, tableAfter};
+ghost use Rattle.search.specs.Answer.{scoreAnswer, trailAfter, tableAfter};
 ghost use Rattle.assembly.specs.Follows.{settingOf};
 ghost use Rattle.assembly.specs.Answer.{answerOf, roomOf};
 ghost use Rattle.assembly.specs.Demand.{Demand3};
 use crate::answer::Score;
 use crate::answer::Scored;
-use crate::run;
-use crate::trail as numbers;
+use crate::find;
 use crate::visit::Setting;
 use matches::build;
 use matches::build::Built;
 use matches::clear;
 use molecule::Verdict;
-
-// The search of an accepted record, whose matches are in pairs; memo and desk may hold anything. A score's removals go to the trail.
-fn find(
-    bytes: &[u8],
-    setting: Setting,
-    trail: &mut [u32],
-    pairs: &[u64],
-    matches: u64,
-    memo: &mut [u64],
-    desk: &mut [u64],
-) -> Scored
-    requires { ⌜ (check (now bytes) ≡ accepted) × Recorded (now pairs) (matchesOf (now bytes)) × (matches ≡ length (matchesOf (now bytes))) × (4 * matches ≤ length (now pairs)) × (matches ≤ 4294967295)
-        × (32 ≤ length (now trail)) × (4096 ≤ length (now desk)) ⌝ }
-    ensures answer { λ r. ⌜ answerOf r (now (trail .exit)) ≡ searched (matchTable (now (bytes .entry))) (search (now (bytes .entry)) (matchesOf (now (bytes .entry))) (settingOf setting) (memoRoom (length (now (memo .entry))))) ⌝ }
-    ensures trail { λ r. ⌜ now (trail .exit) ≡ trailAfter (searched (matchTable (now (bytes .entry))) (search (now (bytes .entry)) (matchesOf (now (bytes .entry))) (settingOf setting) (memoRoom (length (now (memo .entry)))))) (now (trail .entry)) ⌝ }
-{
-    clear::zero(memo);
-    clear::zero(desk);
-    let out = run::run(bytes, pairs, matches as usize, setting, memo, desk);
-    let row = out.row;
-    if row == 0 {
-        let removals = out.trail;
-        let k = out.length;
-        numbers::write(&removals, k, trail);
-        return Scored::Score(Score {
-            index: out.answer,
-            matches: matches,
-            states: out.states,
-            length: k as u32,
-        });
-    }
-    if row == 11 {
-        return Scored::Budget(out.place);
-    }
-    Scored::Memo(out.place)
-}
 
 // Rows 9 to 12, where none of rows 1 to 8 applies.
 fn answer(
@@ -72,7 +31,7 @@ fn answer(
     ensures trail { λ r. ⌜ now (trail .exit) ≡ trailAfter (scoreAnswer (now (bytes .entry)) (settingOf setting) (roomOf (now (trail .entry)) (now (parts .entry)) (now (pairs .entry)) (now (memo .entry)) (now (desk .entry)))) (now (trail .entry)) ⌝ }
 {
     match build::build(bytes, parts, pairs) {
-        Built::Count(n) => find(bytes, setting, trail, pairs, n, memo, desk),
+        Built::Count(n) => find::find(bytes, setting, trail, pairs, n, memo, desk),
         Built::Parts(k) => Scored::Parts(k),
         Built::Pairs(n) => Scored::Pairs(n),
     }

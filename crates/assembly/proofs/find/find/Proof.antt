@@ -1,4 +1,4 @@
--- `assembly::score::find` meets its contract. Assumes nothing.
+-- `assembly::find::find` meets its contract. Assumes nothing.
 use borrow.Author.Needs.{needs}
 use mathlib.Core.Path.{_≡_}
 use Prim.Native.Nat.{_-_, _≤_}
@@ -7,8 +7,8 @@ use lib.ListN.{length}
 use Rattle.molecule.specs.Record.{bonds}
 use Rattle.assembly.specs.Follows.{settingOf}
 use Rattle.assembly.proofs.Scoring.{stored-zeros, cached-zeros, found-short, found-scored, found-eleven, found-twelve}
-use Rattle.assembly.proofs.score.find.Statement.{statement}
-use Rattle.assembly.proofs.score.find.Tie as tie
+use Rattle.assembly.proofs.find.find.Statement.{statement}
+use Rattle.assembly.proofs.find.find.Tie as tie
 
 zero-requires : tie.Need-zero-requires
 zero-requires c κs = search needs
