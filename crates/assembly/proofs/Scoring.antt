@@ -170,8 +170,8 @@ module _ (r : Bytes) (setting : Setting) (room : Room) (entry : entryAnswer r se
           omega (arith, table-row (matchTable r) (room .parts) (room .pairs) j i q)
 
   -- every word of the four tables is zero
-  pub zeros-after : (words now : List ℕ) (n : ℕ) → now ≡ replicate n 0 → n ≡ length words → now ≡ tableAfter (scoreAnswer r setting room) words
-  zeros-after words now n e g = e ∙ ap (λ (k : ℕ). replicate k 0) g ∙ sym (late (scoreAnswer r setting room) back-late words)
+  pub zeros-after : (words now : List ℕ) → now ≡ replicate (length words) 0 → now ≡ tableAfter (scoreAnswer r setting room) words
+  zeros-after words now e = e ∙ sym (late (scoreAnswer r setting room) back-late words)
 
   -- turned back by the table: the row, and the trail as it was
   pub score-table : (k p : ℕ) → built.turnedBack k p ≡ built.buildAnswer r (room .parts) (room .pairs) → (old : List ℕ) → (turnedBack k p ≡ scoreAnswer r setting room) × (old ≡ trailAfter (scoreAnswer r setting room) old)

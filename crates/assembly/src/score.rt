@@ -1,7 +1,7 @@
 // score: the public call. Rows 1 to 6 by check, 7 and 8, then the match table (rows 9 and 10), then the search (rows 11 and 12).
 ghost use mathlib.Core.Path.{_≡_};
 ghost use Prim.Native.Nat.{_≤_};
-ghost use lib.ListN.{length, take};
+ghost use lib.ListN.{length, take, replicate};
 ghost use Rattle.molecule.specs.Check.{check, accepted};
 ghost use Rattle.search.specs.Answer.{scoreAnswer, trailAfter, tableAfter};
 ghost use Rattle.assembly.specs.Follows.{settingOf};
@@ -50,10 +50,10 @@ fn answer_and_clear(
     requires { ⌜ (check (now bytes) ≡ accepted) × (setting .bounds ≤ 3) × (setting .memo ≤ 1) × (32 ≤ length (now trail)) × (4096 ≤ length (now desk)) ⌝ }
     ensures answer { λ r. ⌜ answerOf r (now (trail .exit)) ≡ scoreAnswer (now (bytes .entry)) (settingOf setting) (roomOf (now (trail .entry)) (now (parts .entry)) (now (pairs .entry)) (now (memo .entry)) (now (desk .entry))) ⌝ }
     ensures trail { λ r. ⌜ now (trail .exit) ≡ trailAfter (scoreAnswer (now (bytes .entry)) (settingOf setting) (roomOf (now (trail .entry)) (now (parts .entry)) (now (pairs .entry)) (now (memo .entry)) (now (desk .entry)))) (now (trail .entry)) ⌝ }
-    ensures parts { λ r. ⌜ now (parts .exit) ≡ tableAfter (scoreAnswer (now (bytes .entry)) (settingOf setting) (roomOf (now (trail .entry)) (now (parts .entry)) (now (pairs .entry)) (now (memo .entry)) (now (desk .entry)))) (now (parts .entry)) ⌝ }
-    ensures pairs { λ r. ⌜ now (pairs .exit) ≡ tableAfter (scoreAnswer (now (bytes .entry)) (settingOf setting) (roomOf (now (trail .entry)) (now (parts .entry)) (now (pairs .entry)) (now (memo .entry)) (now (desk .entry)))) (now (pairs .entry)) ⌝ }
-    ensures memo { λ r. ⌜ now (memo .exit) ≡ tableAfter (scoreAnswer (now (bytes .entry)) (settingOf setting) (roomOf (now (trail .entry)) (now (parts .entry)) (now (pairs .entry)) (now (memo .entry)) (now (desk .entry)))) (now (memo .entry)) ⌝ }
-    ensures desk { λ r. ⌜ now (desk .exit) ≡ tableAfter (scoreAnswer (now (bytes .entry)) (settingOf setting) (roomOf (now (trail .entry)) (now (parts .entry)) (now (pairs .entry)) (now (memo .entry)) (now (desk .entry)))) (now (desk .entry)) ⌝ }
+    ensures parts { λ r. ⌜ now (parts .exit) ≡ replicate (length (now (parts .entry))) 0 ⌝ }
+    ensures pairs { λ r. ⌜ now (pairs .exit) ≡ replicate (length (now (pairs .entry))) 0 ⌝ }
+    ensures memo { λ r. ⌜ now (memo .exit) ≡ replicate (length (now (memo .entry))) 0 ⌝ }
+    ensures desk { λ r. ⌜ now (desk .exit) ≡ replicate (length (now (desk .entry))) 0 ⌝ }
 {
     let scored = answer(bytes, setting, trail, parts, pairs, memo, desk);
     clear::zero(parts);

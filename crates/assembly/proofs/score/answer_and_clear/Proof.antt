@@ -1,8 +1,9 @@
 -- `assembly::score::answer_and_clear` meets its contract. Assumes nothing.
 use borrow.Author.Needs.{needs}
-use Rattle.assembly.specs.Follows.{settingOf}
-use Rattle.assembly.specs.Answer.{roomOf}
-use Rattle.assembly.proofs.Scoring.{entry-accepts, zeros-after}
+use mathlib.Core.Path.{_≡_, ap, _∙_}
+use mathlib.Core.List.{List}
+use Prim.Native.Nat.{ℕ}
+use lib.ListN.{length, replicate}
 use Rattle.assembly.proofs.score.answer_and_clear.Statement.{statement}
 use Rattle.assembly.proofs.score.answer_and_clear.Tie as tie
 
@@ -36,22 +37,24 @@ same-length-4 c = search needs
 same-length-5 : tie.Need-same-length-5
 same-length-5 c = search needs
 
+-- so many zeros, where the table had as many words
+zeros : (words now : List ℕ) (n : ℕ) → now ≡ replicate n 0 → n ≡ length words → now ≡ replicate (length words) 0
+zeros words now n e same = e ∙ ap (λ (k : ℕ). replicate k 0) same
+
 returns : tie.Need-returns
 returns c =
-    let s = c .before .before .before .before .before .before .before .before .before .before .before .before .before .before .before .before .before .before .before .before .before .before .before .before .before .before .before .before .before .before .before .before .before .before .before .before .before .before in
-    let a = s .args in
-    let w = c .before .before .before .before .before .before .before .before .before .before .before .before .before .before .before .before .before .before .before .before .before .before .before .before .before .before .answer in
-    let e = entry-accepts (a .bytes .now) (settingOf (a .setting)) (roomOf (a .trail .now) (a .parts .now) (a .pairs .now) (a .memo .now) (a .desk .now)) (s .pre .0) (s .pre .1) (s .pre .2) (s .pre .3) (s .pre .4) in (
+    let a = c .before .before .before .before .before .before .before .before .before .before .before .before .before .before .before .before .before .before .before .before .before .before .before .before .before .before .before .before .before .before .before .before .before .before .before .before .before .before .args in
+    let w = c .before .before .before .before .before .before .before .before .before .before .before .before .before .before .before .before .before .before .before .before .before .before .before .before .before .before .answer in (
       w .ensures .0,
       (
         w .ensures .1,
         (
-          zeros-after (a .bytes .now) (settingOf (a .setting)) (roomOf (a .trail .now) (a .parts .now) (a .pairs .now) (a .memo .now) (a .desk .now)) e (a .parts .now) _ _ (c .before .before .before .before .before .before .before .before .before .before .before .before .before .before .zero .ensures) (w .kept .1 .1 .1 .0),
+          zeros (a .parts .now) _ _ (c .before .before .before .before .before .before .before .before .before .before .before .before .before .before .zero .ensures) (w .kept .1 .1 .1 .0),
           (
-            zeros-after (a .bytes .now) (settingOf (a .setting)) (roomOf (a .trail .now) (a .parts .now) (a .pairs .now) (a .memo .now) (a .desk .now)) e (a .pairs .now) _ _ (c .before .before .before .before .before .before .before .before .before .before .zero2 .ensures) (w .kept .1 .1 .1 .1 .0),
+            zeros (a .pairs .now) _ _ (c .before .before .before .before .before .before .before .before .before .before .zero2 .ensures) (w .kept .1 .1 .1 .1 .0),
             (
-              zeros-after (a .bytes .now) (settingOf (a .setting)) (roomOf (a .trail .now) (a .parts .now) (a .pairs .now) (a .memo .now) (a .desk .now)) e (a .memo .now) _ _ (c .before .before .before .before .before .before .zero3 .ensures) (w .kept .1 .1 .1 .1 .1 .0),
-              zeros-after (a .bytes .now) (settingOf (a .setting)) (roomOf (a .trail .now) (a .parts .now) (a .pairs .now) (a .memo .now) (a .desk .now)) e (a .desk .now) _ _ (c .before .before .zero4 .ensures) (w .kept .1 .1 .1 .1 .1 .1 .0),
+              zeros (a .memo .now) _ _ (c .before .before .before .before .before .before .zero3 .ensures) (w .kept .1 .1 .1 .1 .1 .0),
+              zeros (a .desk .now) _ _ (c .before .before .zero4 .ensures) (w .kept .1 .1 .1 .1 .1 .1 .0),
             ),
           ),
         ),

@@ -2,7 +2,7 @@
 use borrow.Author.Needs.{needs}
 use Rattle.assembly.specs.Follows.{settingOf}
 use Rattle.assembly.specs.Answer.{roomOf}
-use Rattle.assembly.proofs.Scoring.{bounds-back, memo-back, trail-back, desk-back}
+use Rattle.assembly.proofs.Scoring.{bounds-back, memo-back, trail-back, desk-back, entry-accepts, zeros-after}
 use Rattle.assembly.proofs.score.score_accepted.Statement.{statement}
 use Rattle.assembly.proofs.score.score_accepted.Tie as tie
 
@@ -53,7 +53,12 @@ same-length-5 : tie.Need-same-length-5
 same-length-5 c = search needs
 
 returns-5 : tie.Need-returns-5
-returns-5 c = search needs
+returns-5 c =
+    let s = c .before .before .before .before .before .before .before .before .before .before .before .before .before .before .before .before .before .before .before .before .before .before .before .before .before .before .before .before in
+    let a = s .args in
+    let w = c .before .before .before .before .before .before .before .before .before .before .answer-and-clear .ensures in
+    let z = zeros-after (a .bytes .now) (settingOf (a .setting)) (roomOf (a .trail .now) (a .parts .now) (a .pairs .now) (a .memo .now) (a .desk .now)) (entry-accepts (a .bytes .now) (settingOf (a .setting)) (roomOf (a .trail .now) (a .parts .now) (a .pairs .now) (a .memo .now) (a .desk .now)) (s .pre) (c .before .before .before .before .before .before .before .before .before .before .before .before .before .before .before .before .before .before .before .before .if1 .left) (c .before .before .before .before .before .before .before .before .before .before .before .before .before .before .before .before .before .before .if2 .left) (c .before .before .before .before .before .before .before .before .before .before .before .before .before .before .before .before .before .if3 .left) (c .before .before .before .before .before .before .before .before .before .before .before .before .before .before .before .before .if4 .left)) in
+    (w .0, (w .1 .0, (z (a .parts .now) _ (w .1 .1 .0), (z (a .pairs .now) _ (w .1 .1 .1 .0), (z (a .memo .now) _ (w .1 .1 .1 .1 .0), z (a .desk .now) _ (w .1 .1 .1 .1 .1))))))
 
 pub score-accepted-spec : {M : Type 1} → statement M
 score-accepted-spec =
