@@ -5,7 +5,7 @@ use mathlib.Core.Logic.{_⊎_, inl, inr, ⊎-elim}
 use mathlib.Core.List.{List, [], _++_}
 use Prim.Native.Nat.{ℕ, _+_, _-_, _*_, _≤_, _<_}
 use native.Mathlib.Omega.{arith}
-use lib.ListN.{length, getD, take, drop, replicate, length-take, length-replicate}
+use lib.ListN.{length, take, drop, replicate, length-take, length-replicate}
 use lib.Seq.{take-at}
 use lib.Dec.{ltb, leb}
 use borrow.Author.Tests.{ltb-false, lt-ltb, le-ltb, le-leb, lt-leb}
@@ -31,10 +31,12 @@ use Rattle.assembly.specs.declared.answer.Score.{Score}
 use Rattle.assembly.specs.declared.answer.Scored.{Scored}
 use Rattle.assembly.specs.declared.answer.Scored.the-variants as says
 use Rattle.assembly.specs.declared.visit.Outcome.{Outcome}
-use Rattle.assembly.specs.Stored.{Cached, lastIn, Stored}
+use Rattle.assembly.specs.Stored.{Cached, Stored}
 use Rattle.assembly.specs.Follows.{Follows}
 use Rattle.assembly.specs.Answer.{answerOf}
 use Rattle.assembly.specs.Demand.{Demand3}
+use Rattle.assembly.proofs.Caching.{cached-none}
+use Rattle.assembly.proofs.Entries.{stored-none}
 
 -- ---- rows 1 to 8
 
@@ -202,23 +204,13 @@ built-ready r parts old now n e f =
 
 -- ---- the search
 
--- words that are all zero are an empty memo
+-- zeros are an empty memo
 pub stored-zeros : (r : Bytes) (words : List ℕ) (n : ℕ) → words ≡ replicate n 0 → Stored r words 0 []
-unfolding lastIn
-stored-zeros r words n e = record {
-  count = refl;
-  fits = omega arith;
-  held = λ i h. absurd (omega arith);
-  chained = record { before = λ i h. absurd (omega arith); last = λ h l. rw e (zeros-at n (80 * h + 69)) };
-  distinct = λ i j h l. absurd (omega arith);
-}
+stored-zeros r words n e = stored-none r words (λ i. rw e (zeros-at n i))
 
--- and a desk on which no slot says anything
+-- and a desk that says nothing
 pub cached-zeros : (r : Bytes) (words : List ℕ) (n : ℕ) → words ≡ replicate n 0 → 4096 ≤ n → Cached r words
-cached-zeros r words n e h = record { wide = rw (e, length-replicate) h; hashes = λ i l f. absurd (f (zero-at (2 * i))); pairs = λ i l f. absurd (f (zero-at (2048 + 2 * i))) }
-  where
-    zero-at : (i : ℕ) → getD words i 0 ≡ 0
-    zero-at i = rw e (zeros-at n i)
+cached-zeros r words n e h = cached-none r words (rw (e, length-replicate) h) (λ i. rw e (zeros-at n i))
 
 -- what the code's outcome says where it is that of the definition, case by case
 module _ (r : Bytes) (best : ℕ) (o : Outcome) (words : List ℕ) where
