@@ -37,13 +37,13 @@ use Rattle.search.proofs.Lists.{inside-true, refines-within, flat-mem}
 use Rattle.search.proofs.Parts.{few, big-is}
 use Rattle.search.proofs.Refine.{diff-within, and-within, first-struck, removable-mem, keep-refines, letting-go, mask-within}
 use Rattle.search.proofs.Ends.{keep-size, child-fine, child-falls, child-two}
-use Rattle.assembly.specs.declared.state.State as code
-use Rattle.assembly.specs.Views.{stateOf}
-use Rattle.assembly.specs.Pieces.{bondsOf, bondsLeft, Big, Owned, Held, Chosen}
-use Rattle.assembly.specs.Scan.{Owners, Scanning, Told, goes}
+use Rattle.state.specs.declared.State as code
+use Rattle.state.specs.Views.{stateOf}
+use Rattle.state.specs.Pieces.{bondsOf, bondsLeft, Big, Owned, Held, Chosen}
+use Rattle.state.specs.Scan.{Owners, Scanning, Told, goes}
 use Rattle.assembly.specs.Follows.{Searched, Entered}
 use Rattle.assembly.specs.Branching.{leastTried, triedFrom, Turn, Next, Chooses, Below}
-use Rattle.assembly.proofs.Scanning.{removable-in, removable-out, removable-end}
+use Rattle.state.proofs.Scanning.{removable-in, removable-out, removable-end}
 
 -- ---- lists
 

@@ -31,12 +31,12 @@ use Rattle.assembly.specs.declared.answer.Score.{Score}
 use Rattle.assembly.specs.declared.answer.Scored.{Scored}
 use Rattle.assembly.specs.declared.answer.Scored.the-variants as says
 use Rattle.assembly.specs.declared.visit.Outcome.{Outcome}
-use Rattle.assembly.specs.Stored.{Cached, Stored}
+use Rattle.memoize.specs.Stored.{Cached, Stored}
 use Rattle.assembly.specs.Follows.{Follows}
 use Rattle.assembly.specs.Answer.{answerOf}
 use Rattle.assembly.specs.Demand.{Demand3}
-use Rattle.assembly.proofs.Caching.{cached-none}
-use Rattle.assembly.proofs.Entries.{stored-none}
+use Rattle.memoize.proofs.Caching.{cached-none}
+use Rattle.memoize.proofs.Entries.{stored-none}
 
 -- ---- rows 1 to 8
 

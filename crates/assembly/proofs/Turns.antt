@@ -31,15 +31,15 @@ use Rattle.search.proofs.Parts.{some}
 use Rattle.search.proofs.Least.{ask-off}
 use Rattle.search.proofs.Ends.{root-fine}
 use Rattle.search.proofs.Fragments.{all-connected}
-use Rattle.assembly.specs.declared.state.State as code
+use Rattle.state.specs.declared.State as code
 use Rattle.assembly.specs.declared.visit.Setting as code-setting
 use Rattle.assembly.specs.declared.visit.Outcome as code-outcome
 use Rattle.assembly.specs.declared.visit.Gate.{Gate}
 use Rattle.assembly.specs.declared.visit.Gate.the-variants.{Goes as Opens, Stops, Ends}
-use Rattle.assembly.specs.declared.memo.Asked.{Asked}
-use Rattle.assembly.specs.declared.memo.Asked.the-variants.{Goes, Stopped, Full}
-use Rattle.assembly.specs.Views.{stateOf}
-use Rattle.assembly.specs.Stored.{Cached, Fragments, Stored, entryWith, Answers}
+use Rattle.memoize.specs.declared.Asked.{Asked}
+use Rattle.memoize.specs.declared.Asked.the-variants.{Goes, Stopped, Full}
+use Rattle.state.specs.Views.{stateOf}
+use Rattle.memoize.specs.Stored.{Cached, Fragments, Stored, entryWith, Answers}
 use Rattle.assembly.specs.Follows.{settingOf, runOf, Entered, Follows, Visited, Found, Opened, Stopped as Stopped-state, Ended, Gated, Own, betterOf, Lowered}
 use Rattle.assembly.specs.Branching.{triedFrom, Turn, Next, Chooses, Below}
 use Rattle.assembly.proofs.Branching.{pieces-own, next-take, next-end, below-falls}

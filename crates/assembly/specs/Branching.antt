@@ -13,10 +13,10 @@ use Rattle.search.specs.Setting as settings
 use Rattle.search.specs.State as search
 use Rattle.search.specs.Search.{tried}
 use Rattle.search.specs.Claims.{heldOf}
-use Rattle.assembly.specs.declared.state.State.{State}
+use Rattle.state.specs.declared.State.{State}
 use Rattle.assembly.specs.declared.visit.Branch.{Branch}
-use Rattle.assembly.specs.Views.{stateOf}
-use Rattle.assembly.specs.Scan.{Scanning, goes}
+use Rattle.state.specs.Views.{stateOf}
+use Rattle.state.specs.Scan.{Scanning, goes}
 use Rattle.assembly.specs.Follows.{Entered}
 
 -- the least size tried: 2 with MatchableEdges off

@@ -19,13 +19,13 @@ use Rattle.search.specs.Setting as settings
 use Rattle.search.specs.Memo.{Entry}
 use Rattle.search.specs.Search as search
 use Rattle.search.specs.Claims.{Fine}
-use Rattle.assembly.specs.declared.state.State.{State}
+use Rattle.state.specs.declared.State.{State}
 use Rattle.assembly.specs.declared.visit.Setting.{Setting}
 use Rattle.assembly.specs.declared.visit.Outcome.{Outcome}
 use Rattle.assembly.specs.declared.visit.Gate.{Gate}
 use Rattle.assembly.specs.declared.visit.Gate.the-variants.{Goes, Stops, Ends}
-use Rattle.assembly.specs.Views.{stateOf}
-use Rattle.assembly.specs.Stored.{Lent, Stored}
+use Rattle.state.specs.Views.{stateOf}
+use Rattle.memoize.specs.Stored.{Lent, Stored}
 
 -- the setting that the code's setting is
 abbrev pub settingOf : Setting → settings.Setting

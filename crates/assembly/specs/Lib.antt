@@ -1,8 +1,4 @@
--- The code's values as those of the search's definitions.
-pub mod Views
-pub mod Pieces
-pub mod Scan
-pub mod Stored
+-- The code's outcomes and answers as those of the search's definitions; demand 3 as score's contract states it.
 pub mod Follows
 pub mod Branching
 pub mod Answer

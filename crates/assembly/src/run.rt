@@ -9,7 +9,7 @@ ghost use Rattle.matches.specs.Table.{pairs as matchesOf};
 ghost use Rattle.matches.specs.Written.{Recorded};
 ghost use Rattle.search.specs.Setting.{memoRoom};
 ghost use Rattle.search.specs.Search.{search};
-ghost use Rattle.assembly.specs.Stored.{Cached, Stored};
+ghost use Rattle.memoize.specs.Stored.{Cached, Stored};
 ghost use Rattle.assembly.specs.Follows.{settingOf, Follows};
 use crate::visit;
 use crate::visit::Outcome;

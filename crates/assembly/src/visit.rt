@@ -12,15 +12,13 @@ ghost use Rattle.matches.specs.Table.{Pair};
 ghost use Rattle.matches.specs.Laws.{Laws};
 ghost use Rattle.search.specs.Setting.{memoRoom};
 ghost use Rattle.search.specs.Memo.{Entry};
-ghost use Rattle.assembly.specs.Scan.{Scanning};
-ghost use Rattle.assembly.specs.Stored.{Cached, Lent, Stored};
+ghost use Rattle.state.specs.Scan.{Scanning};
+ghost use Rattle.memoize.specs.Stored.{Cached, Lent, Stored};
 ghost use Rattle.assembly.specs.Follows.{Searched, Entered, Ready, Starts, Visited, Found, IntStops, Gated, Own, betterOf, Lowered};
 ghost use Rattle.assembly.specs.Branching.{leastTried, Branched, Next, Chooses, Below};
-use crate::memo;
-use crate::memo::Asked;
-use crate::scan;
-use crate::state;
-use crate::state::State;
+use memoize::Asked;
+use state::State;
+use state::scan;
 
 // Bounds (0 to 3: 1 is Int, 2 is MatchableEdges, 3 both), memo (0 or 1) and the budget of states.
 pub struct Setting {
@@ -117,7 +115,7 @@ fn enter(
     let n = s.count;
     let removals = s.removals;
     let k = s.removed;
-    match memo::ask(
+    match memoize::ask(
         bytes,
         at,
         memo,

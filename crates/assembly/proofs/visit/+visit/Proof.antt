@@ -9,7 +9,7 @@ use Rattle.bounds.specs.Numbers.{sumOf}
 use Rattle.matches.specs.Table.{pairs}
 use Rattle.matches.proofs.Laws.{table-laws}
 use Rattle.search.specs.Setting.{memoRoom}
-use Rattle.assembly.specs.Views.{stateOf}
+use Rattle.state.specs.Views.{stateOf}
 use Rattle.assembly.specs.Follows.{settingOf}
 use Rattle.assembly.specs.Branching.{Chooses, Below}
 use Rattle.assembly.proofs.Branching.{part-zero, below-falls}

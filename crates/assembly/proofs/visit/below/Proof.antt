@@ -9,7 +9,7 @@ use Rattle.assembly.proofs.visit.below.Statement.{statement}
 use Rattle.assembly.proofs.visit.below.Tie as tie
 use Rattle.assembly.proofs.visit.below.Reads as reads
 use Rattle.assembly.proofs.visit.below.Lts as lts
-use Rattle.assembly.proofs.state.child.Reads as child-reads
+use Rattle.state.proofs.child.Reads as child-reads
 
 mul-child : tie.Need-mul-child
 mul-child c = search needs

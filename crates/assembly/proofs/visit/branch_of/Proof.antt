@@ -7,20 +7,20 @@ use lib.ListN.{length, getD}
 use Rattle.molecule.specs.Lists.{Bytes}
 use Rattle.bitset.specs.Bits.{unions}
 use Rattle.matches.specs.Table.{pairs}
-use Rattle.assembly.specs.Views.{stateOf}
+use Rattle.state.specs.Views.{stateOf}
 use Rattle.assembly.specs.Follows.{Searched}
 use Rattle.assembly.specs.Branching.{leastTried}
-use Rattle.assembly.specs.Scan.{Owners, Scanning, Told}
+use Rattle.state.specs.Scan.{Owners, Scanning, Told}
 use Rattle.assembly.proofs.Branching.{part-zero, scanning-of, pieces-sum, told-few, told-within, told-tries, told-holds}
 use borrow.Author.Needs.{needs}
 use Rattle.assembly.proofs.visit.branch_of.Statement.{statement}
 use Rattle.assembly.proofs.visit.branch_of.Tie as tie
 use Rattle.assembly.proofs.visit.branch_of.Reads as reads
 use Rattle.assembly.proofs.visit.branch_of.Lts as lts
-use Rattle.assembly.proofs.scan.masks.Reads as masks-reads
-use Rattle.assembly.proofs.scan.owners.Reads as owners-reads
-use Rattle.assembly.proofs.scan.whole.Reads as whole-reads
-use Rattle.assembly.proofs.state.keep.Reads as keep-reads
+use Rattle.state.proofs.scan.masks.Reads as masks-reads
+use Rattle.state.proofs.scan.owners.Reads as owners-reads
+use Rattle.state.proofs.scan.whole.Reads as whole-reads
+use Rattle.state.proofs.keep.Reads as keep-reads
 use Rattle.assembly.proofs.visit.least_tried.Reads as least-tried-reads
 
 -- the length of the array of pieces

@@ -3,7 +3,7 @@ use mathlib.Core.Path.{_≡_, refl, sym, _∙_}
 use native.Mathlib.Omega.{arith}
 use lib.ListN.{length}
 use Rattle.matches.specs.Table.{pairs}
-use Rattle.assembly.specs.Views.{stateOf}
+use Rattle.state.specs.Views.{stateOf}
 use Rattle.assembly.specs.Follows.{settingOf}
 use Rattle.assembly.proofs.Branching.{part-zero, largest-few}
 use Rattle.assembly.proofs.Turns.{ends-spent, stops-int, goes-plain, stops-memo, ends-full, goes-memo, fragments-of}
@@ -12,7 +12,7 @@ use Rattle.assembly.proofs.visit.enter.Statement.{statement}
 use Rattle.assembly.proofs.visit.enter.Tie as tie
 use Rattle.assembly.proofs.visit.enter.Reads as reads
 use Rattle.assembly.proofs.visit.enter.Lts as lts
-use Rattle.assembly.proofs.memo.ask.Reads as ask-reads
+use Rattle.memoize.proofs.ask.Reads as ask-reads
 use Rattle.assembly.proofs.visit.int_stops.Reads as int-stops-reads
 
 -- the lengths of the arrays of the state

@@ -5,7 +5,7 @@ use mathlib.Core.Path.{_≡_, sym, _∙_}
 use Prim.Native.Nat.{_≤_}
 use native.Mathlib.Omega.{arith}
 use lib.ListN.{length}
-use Rattle.assembly.specs.Views.{stateOf}
+use Rattle.state.specs.Views.{stateOf}
 use Rattle.bounds.specs.Numbers.{ceilLog2}
 use Rattle.bounds.specs.Bounds.{intBound}
 use Rattle.assembly.proofs.Branching.{part-zero}

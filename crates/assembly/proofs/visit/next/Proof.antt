@@ -8,14 +8,14 @@ use lib.ListN.{length, getD}
 use Rattle.molecule.specs.Lists.{Bytes}
 use Rattle.matches.specs.Table.{Pair}
 use Rattle.matches.specs.Laws.{Laws}
-use Rattle.assembly.specs.Scan.{Scanning}
+use Rattle.state.specs.Scan.{Scanning}
 use Rattle.assembly.specs.Branching.{triedFrom}
 use Rattle.assembly.proofs.Branching.{next-skip, next-small, next-end, end-turn}
 use Rattle.assembly.proofs.visit.next.Statement.{statement}
 use Rattle.assembly.proofs.visit.next.Tie as tie
 use Rattle.assembly.proofs.visit.next.Reads as reads
 use Rattle.assembly.proofs.visit.next.Lts as lts
-use Rattle.assembly.proofs.scan.is_removable.Reads as is-removable-reads
+use Rattle.state.proofs.scan.is_removable.Reads as is-removable-reads
 
 abbrev Inv-loop : tie.InvT-loop
 Inv-loop pairs from matches own all least i₀ i =

@@ -11,7 +11,7 @@ use Rattle.assembly.proofs.visit.search.Statement.{statement}
 use Rattle.assembly.proofs.visit.search.Tie as tie
 use Rattle.assembly.proofs.visit.search.Reads as reads
 use Rattle.assembly.proofs.visit.search.Lts as lts
-use Rattle.assembly.proofs.state.root.Reads as root-reads
+use Rattle.state.proofs.root.Reads as root-reads
 use Rattle.assembly.proofs.visit.visit.Reads as visit-reads
 
 -- an accepted record has from 1 to 64 bonds
