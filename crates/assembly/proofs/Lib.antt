@@ -1,3 +1,12 @@
 -- The theory of the search's code.
+pub mod Caching
+pub mod Lending
+pub mod Keys
+pub mod Later
+pub mod Filling
+pub mod Entries
+pub mod Asking
 pub mod Pieces
 pub mod Scanning
+pub mod Scoring
+pub mod Starred

@@ -1,4 +1,8 @@
--- The code's values as those of the search's definitions: states, their pieces, and a scan of the matches.
+-- The code's values as those of the search's definitions.
 pub mod Views
 pub mod Pieces
 pub mod Scan
+pub mod Stored
+pub mod Follows
+pub mod Answer
+pub mod Demand

@@ -1,0 +1,64 @@
+-- `assembly::score::score` meets its contract. Assumes nothing.
+use borrow.Author.Needs.{needs}
+use mathlib.Core.Path.{sym, ap, _∙_}
+use Rattle.molecule.specs.Verdict.{answerOf}
+use Rattle.assembly.specs.Follows.{settingOf}
+use Rattle.assembly.specs.Answer.{roomOf}
+use Rattle.assembly.proofs.Scoring.{record-back, demand-met}
+use Rattle.assembly.proofs.score.score.Statement.{statement}
+use Rattle.assembly.proofs.score.score.Tie as tie
+
+check-requires : tie.Need-check-requires
+check-requires c κs = search needs
+
+enum-told : tie.Need-enum-told
+enum-told c = search needs
+
+score-accepted-requires : tie.Need-score-accepted-requires
+score-accepted-requires c κs = sym (sym (ap answerOf (c .before .before .before .before .before .enum-told .given .1)) ∙ c .before .before .before .before .before .before .before .check .ensures)
+
+enum-known-fault : tie.Need-enum-known-fault
+enum-known-fault c = search needs
+
+same-length : tie.Need-same-length
+same-length c = search needs
+
+same-length-2 : tie.Need-same-length-2
+same-length-2 c = search needs
+
+same-length-3 : tie.Need-same-length-3
+same-length-3 c = search needs
+
+same-length-4 : tie.Need-same-length-4
+same-length-4 c = search needs
+
+same-length-5 : tie.Need-same-length-5
+same-length-5 c = search needs
+
+returns : tie.Need-returns
+returns c =
+    let a = c .before .before .before .before .before .before .before .before .before .before .before .before .before .before .before .before .before .before .before .before .before .before .before .before .before .args in
+    let w = c .before .before .before .before .before .before .before .before .before .before .score-accepted .ensures in
+    (w .0, (w .1 .0, (w .1 .1 .0, (w .1 .1 .1 .0, (w .1 .1 .1 .1 .0, (w .1 .1 .1 .1 .1, demand-met (a .bytes .now) (settingOf (a .setting)) (roomOf (a .trail .now) (a .parts .now) (a .pairs .now) (a .memo .now) (a .desk .now)) _ _ (w .0)))))))
+
+returns-2 : tie.Need-returns-2
+returns-2 c =
+    let a = c .before .before .before .before .before .before .before .before .before .before .args in
+    let w = record-back (a .bytes .now) (settingOf (a .setting)) (roomOf (a .trail .now) (a .parts .now) (a .pairs .now) (a .memo .now) (a .desk .now)) (c .before .fault .given .0 .0) (sym (sym (ap answerOf (c .before .fault .given .1)) ∙ c .before .before .before .check .ensures)) in
+    (w .answer, (w .trail (a .trail .now), (w .table (a .parts .now), (w .table (a .pairs .now), (w .table (a .memo .now), (w .table (a .desk .now), demand-met (a .bytes .now) (settingOf (a .setting)) (roomOf (a .trail .now) (a .parts .now) (a .pairs .now) (a .memo .now) (a .desk .now)) _ _ (w .answer)))))))
+
+pub score-spec : {M : Type 1} → statement M
+score-spec =
+    tie.close
+    (tie.spec
+    check-requires
+    enum-told
+    score-accepted-requires
+    enum-known-fault
+    same-length
+    same-length-2
+    same-length-3
+    same-length-4
+    same-length-5
+    returns
+    returns-2)

@@ -1,0 +1,155 @@
+-- The search's memo as the lent tables keep it. Entry i of the memo table is its 80 words from 80 * i on: 0 to 31 its pieces and after them its removals, 32 to 63 the hashes of
+-- its pieces' labels, 64 how many pieces, 65 how many removals, 66 the index, 67 the sum of the hashes, 68 one more than the entry before it in its bucket, 0 for none.
+-- Word 69 is of bucket i: one more than its last entry, 0 for none. An entry's bucket is its sum modulo the number of entries that have room.
+use mathlib.Core.Path.{_≡_}
+use mathlib.Core.Logic.{_≢_}
+use mathlib.Core.Bool.{true, false}
+use mathlib.Core.List.{List, [], _∷_, map}
+use Prim.Native.Nat.{ℕ, zero, suc, _+_, _*_, _/_, _%_, _≤_, _<_}
+use lib.ListN.{length, getD, take, drop}
+use lib.Dec.{eqb}
+use Rattle.bitset.specs.Bits.{bit}
+use Rattle.molecule.specs.Lists.{Bytes}
+use Rattle.molecule.specs.Touch.{bondsAtWords}
+use Rattle.molecule.specs.Connected.{Own, Connected}
+use Rattle.molecule.specs.Check.{check, accepted}
+use Rattle.canonize.specs.Strings.{sort, hash}
+use Rattle.canonize.specs.Label.{label}
+use Rattle.canonize.specs.Buffers.{Slots}
+use Rattle.search.specs.Memo.{Entry, Memo, goes, stopped, full}
+use Rattle.assembly.specs.declared.memo.Asked.{Asked}
+use Rattle.assembly.specs.declared.memo.Asked.the-variants.{Goes, Stopped, Full}
+
+-- ---- the desk
+
+-- 1,024 slots with a set and the hash of its label, and 1,024 with two sets of one label; a slot that begins with 0 says nothing
+pub record Cached (r : Bytes) (desk : List ℕ) : Type 0 where
+  pub wide : 4096 ≤ length desk
+  pub hashes : (i : ℕ) → i < 1024 → getD desk (2 * i) 0 ≢ 0 → getD desk (2 * i + 1) 0 ≡ hash (label r (getD desk (2 * i) 0))
+  pub pairs : (i : ℕ) → i < 1024 → getD desk (2048 + 2 * i) 0 ≢ 0 → label r (getD desk (2048 + 2 * i) 0) ≡ label r (getD desk (2048 + 2 * i + 1) 0)
+
+-- an accepted record with the bonds at its atoms, and what is lent to write its labels
+pub record Lent (r : Bytes) (at desk arena lengths scratch own : List ℕ) : Type 0 where
+  pub formed : check r ≡ accepted
+  pub touch : at ≡ bondsAtWords r
+  pub cached : Cached r desk
+  pub slots : Slots arena lengths
+  pub desks : 384 ≤ length scratch
+  pub outs : 389 ≤ length own
+
+-- ---- pieces
+
+-- each set of the list is a fragment of the record
+pub record Fragments (r : Bytes) (l : List ℕ) : Type 0 where
+  pub own : (j : ℕ) → j < length l → Own r (getD l j 0)
+  pub connected : (j : ℕ) → j < length l → Connected r (getD l j 0)
+
+-- the hashes of their labels
+pub record Hashed (r : Bytes) (l hashes : List ℕ) : Type 0 where
+  pub many : length l ≤ length hashes
+  pub is : (j : ℕ) → j < length l → getD hashes j 0 ≡ hash (label r (getD l j 0))
+
+-- n pieces from word base on, and their hashes
+pub record Block (r : Bytes) (words : List ℕ) (base n : ℕ) : Type 0 where
+  pub wide : base + 80 ≤ length words
+  pub few : n ≤ 32
+  pub own : (j : ℕ) → j < n → Own r (getD words (base + j) 0)
+  pub connected : (j : ℕ) → j < n → Connected r (getD words (base + j) 0)
+  pub hashes : (j : ℕ) → j < n → getD words (base + 32 + j) 0 ≡ hash (label r (getD words (base + j) 0))
+
+-- the label of the piece at place j of a block
+unfoldable pub labelAt : Bytes → List ℕ → ℕ → ℕ → Bytes
+labelAt r words base j = label r (getD words (base + j) 0)
+
+-- k is the first of n that is not used and has this label, n where there is none
+pub record Picked (f : ℕ → Bytes) (n used : ℕ) (x : Bytes) (k : ℕ) : Type 0 where
+  pub within : k ≤ n
+  pub free : k < n → bit used k ≡ 0
+  pub hit : k < n → f k ≡ x
+  pub none : n ≤ k → (j : ℕ) → j < n → bit used j ≡ 0 → f j ≢ x
+
+-- the sum of the hashes of a list of labels
+unfoldable pub hashSum : List Bytes → ℕ
+hashSum [] = 0
+hashSum (x ∷ xs) = hash x + hashSum xs
+
+-- ---- entries
+
+-- the words of entry e are those of x
+pub record Held (r : Bytes) (words : List ℕ) (e : ℕ) (x : Entry) : Type 0 where
+  pub few : getD words (80 * e + 64) 0 + getD words (80 * e + 65) 0 ≤ 32
+  pub block : Block r words (80 * e) (getD words (80 * e + 64) 0)
+  pub key : sort (map (label r) (take (getD words (80 * e + 64) 0) (drop (80 * e) words))) ≡ x .key
+  pub total : getD words (80 * e + 67) 0 ≡ hashSum (x .key)
+  pub index : getD words (80 * e + 66) 0 ≡ x .index
+  pub removals : take (getD words (80 * e + 65) 0) (drop (80 * e + getD words (80 * e + 64) 0) words) ≡ x .removals
+
+-- 1 more than the last of the entries below n that is in bucket h of p, and 0 for none
+unfoldable pub lastIn : List ℕ → ℕ → ℕ → ℕ → ℕ
+lastIn words p h zero = 0
+lastIn words p h (suc n) = elim (eqb (getD words (80 * n + 67) 0 % p) h) [ true ↦ suc n | false ↦ lastIn words p h n ]
+
+-- n entries are in their buckets
+pub record Chained (words : List ℕ) (p n : ℕ) : Type 0 where
+  pub before : (i : ℕ) → i < n → getD words (80 * i + 68) 0 ≡ lastIn words p (getD words (80 * i + 67) 0 % p) i
+  pub last : (h : ℕ) → h < p → getD words (80 * h + 69) 0 ≡ lastIn words p h n
+
+-- an entry of nothing
+abbrev pub none : Entry
+none = record { key = []; index = 0; removals = [] }
+
+-- the words are those of a memo of so many entries, whose keys are distinct
+pub record Stored (r : Bytes) (words : List ℕ) (entries : ℕ) (memo : List Entry) : Type 0 where
+  pub count : length memo ≡ entries
+  pub fits : entries ≤ length words / 80
+  pub held : (i : ℕ) → i < entries → Held r words i (getD memo i none)
+  pub chained : Chained words (length words / 80) entries
+  pub distinct : (i j : ℕ) → i < j → j < entries → getD memo i none .key ≢ getD memo j none .key
+
+-- e is the entry of this key, the number of entries where there is none
+pub record Located (memo : List Entry) (key : List Bytes) (e : ℕ) : Type 0 where
+  pub within : e ≤ length memo
+  pub hit : e < length memo → getD memo e none .key ≡ key
+  pub none : length memo ≤ e → (i : ℕ) → i < length memo → getD memo i none .key ≢ key
+
+-- ---- writing
+
+-- n words from k on are those of l, and no other has changed
+pub record Filled (old now : List ℕ) (k n : ℕ) (l : List ℕ) : Type 0 where
+  pub long : length now ≡ length old
+  pub inside : (j : ℕ) → j < n → getD now (k + j) 0 ≡ getD l j 0
+  pub outside : (i : ℕ) → (k ≤ i → i < k + n → ⊥) → getD now i 0 ≡ getD old i 0
+
+-- entry e has been written, and is the last of its bucket
+pub record Put (old now : List ℕ) (e : ℕ) (pieces hashes removals : List ℕ) (index total : ℕ) : Type 0 where
+  pub long : length now ≡ length old
+  pub first : (j : ℕ) → j < length pieces → getD now (80 * e + j) 0 ≡ getD pieces j 0
+  pub second : (j : ℕ) → j < length pieces → getD now (80 * e + 32 + j) 0 ≡ getD hashes j 0
+  pub third : (j : ℕ) → j < length removals → getD now (80 * e + length pieces + j) 0 ≡ getD removals j 0
+  pub count : getD now (80 * e + 64) 0 ≡ length pieces
+  pub removed : getD now (80 * e + 65) 0 ≡ length removals
+  pub rank : getD now (80 * e + 66) 0 ≡ index
+  pub sum : getD now (80 * e + 67) 0 ≡ total
+  pub link : getD now (80 * e + 68) 0 ≡ getD old (80 * (total % (length old / 80)) + 69) 0
+  pub last : getD now (80 * (total % (length old / 80)) + 69) 0 ≡ e + 1
+  pub others : (i : ℕ) → (80 * e ≤ i → i < 80 * e + 69 → ⊥) → i ≢ 80 * (total % (length old / 80)) + 69 → getD now i 0 ≡ getD old i 0
+
+-- the index and the removals of entry e have been replaced
+pub record Changed (old now : List ℕ) (e : ℕ) (removals : List ℕ) (index : ℕ) : Type 0 where
+  pub long : length now ≡ length old
+  pub third : (j : ℕ) → j < length removals → getD now (80 * e + getD old (80 * e + 64) 0 + j) 0 ≡ getD removals j 0
+  pub removed : getD now (80 * e + 65) 0 ≡ length removals
+  pub rank : getD now (80 * e + 66) 0 ≡ index
+  pub others : (i : ℕ) → (80 * e + getD old (80 * e + 64) 0 ≤ i → i < 80 * e + getD old (80 * e + 64) 0 + length removals → ⊥) → i ≢ 80 * e + 65 → i ≢ 80 * e + 66 → getD now i 0 ≡ getD old i 0
+
+-- ---- the answer
+
+-- the entry of a state with these pieces, index and removals
+abbrev pub entryWith : Bytes → List ℕ → ℕ → List ℕ → Entry
+entryWith r pieces index removals = record { key = sort (map (label r) pieces); index = index; removals = removals }
+
+-- the words were old and are now: the answer is that of the memo's definition
+abbrev pub Answers : Bytes → List ℕ → List ℕ → Asked → Memo → Type 0
+Answers r old now a (goes m) = (e : ℕ) × (a ≡ Goes e) × Stored r now e m
+Answers r old now a stopped = (a ≡ Stopped) × (now ≡ old)
+Answers r old now a full = (a ≡ Full) × (now ≡ old)
