@@ -8,5 +8,7 @@ pub mod Entries
 pub mod Asking
 pub mod Pieces
 pub mod Scanning
+pub mod Branching
+pub mod Turns
 pub mod Scoring
 pub mod Starred

@@ -4,5 +4,6 @@ pub mod Pieces
 pub mod Scan
 pub mod Stored
 pub mod Follows
+pub mod Branching
 pub mod Answer
 pub mod Demand
