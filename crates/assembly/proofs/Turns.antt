@@ -2,7 +2,7 @@
 use mathlib.Core.Path.{_≡_, refl, sym, ap, subst, _∙_}
 use mathlib.Core.Logic.{_⊎_, inl, inr, _≢_, ⊎-elim}
 use mathlib.Core.Bool.{Bool, true, false, _&&_, _||_}
-use mathlib.Core.List.{List, [], _∷_}
+use mathlib.Core.List.{List, [], _∷_, List·Memᴰ as Mem, List·Memᴰ·eq-of-singleton as mem-one}
 use Prim.Native.Nat.{ℕ, zero, suc, _+_, _-_, _≤_, _<_, min}
 use native.Mathlib.Omega.{arith}
 use native.Mathlib.Numerals.{add-one}
@@ -11,8 +11,11 @@ use lib.ListN.{length, getD, take}
 use borrow.Author.Tests.{lt-ltb, le-ltb, eq-eqb, ne-eqb}
 use Rattle.bitset.specs.Bits.{size}
 use Rattle.bitset.proofs.Bools.{two}
+use Rattle.bitset.proofs.Laws.{size-first}
 use Rattle.molecule.specs.Lists.{Bytes}
+use Rattle.molecule.specs.Record.{bonds, allBonds}
 use Rattle.molecule.specs.Check.{check, accepted}
+use Rattle.molecule.specs.Connected.{Connected}
 use Rattle.molecule.proofs.Lists.{at-mem}
 use Rattle.bounds.specs.Numbers.{sumOf, ceilLog2}
 use Rattle.bounds.specs.Bounds.{intBound}
@@ -20,11 +23,14 @@ use Rattle.matches.specs.Table.{Pair, pairs}
 use Rattle.matches.proofs.Laws.{table-laws}
 use Rattle.canonize.specs.Buffers.{Slots}
 use Rattle.search.specs.Setting.{Setting, hasMemo, memoRoom}
-use Rattle.search.specs.State.{State, removable, child}
+use Rattle.search.specs.State.{State, root, removable, child}
 use Rattle.search.specs.Memo.{Entry, Memo, goes, stopped, full, remember, entryOf, keyOf}
-use Rattle.search.specs.Search.{Run, Outcome, answers, halts, lower, intStops, ask, tried, children, branch, counted, visit}
-use Rattle.search.specs.Claims.{heldOf}
+use Rattle.search.specs.Search.{Run, Outcome, answers, halts, lower, intStops, ask, tried, children, branch, counted, visit, search}
+use Rattle.search.specs.Claims.{Fine, heldOf}
+use Rattle.search.proofs.Parts.{some}
 use Rattle.search.proofs.Least.{ask-off}
+use Rattle.search.proofs.Ends.{root-fine}
+use Rattle.search.proofs.Fragments.{all-connected}
 use Rattle.assembly.specs.declared.state.State as code
 use Rattle.assembly.specs.declared.visit.Setting as code-setting
 use Rattle.assembly.specs.declared.visit.Outcome as code-outcome
@@ -34,7 +40,7 @@ use Rattle.assembly.specs.declared.memo.Asked.{Asked}
 use Rattle.assembly.specs.declared.memo.Asked.the-variants.{Goes, Stopped, Full}
 use Rattle.assembly.specs.Views.{stateOf}
 use Rattle.assembly.specs.Stored.{Cached, Fragments, Stored, entryWith, Answers}
-use Rattle.assembly.specs.Follows.{settingOf, runOf, Entered, Follows, Visited, Opened, Stopped as Stopped-state, Ended, Gated, Own, betterOf, Lowered}
+use Rattle.assembly.specs.Follows.{settingOf, runOf, Entered, Follows, Visited, Found, Opened, Stopped as Stopped-state, Ended, Gated, Own, betterOf, Lowered}
 use Rattle.assembly.specs.Branching.{triedFrom, Turn, Next, Chooses, Below}
 use Rattle.assembly.proofs.Branching.{pieces-own, next-take, next-end, below-falls}
 
@@ -438,3 +444,40 @@ module _ (r : Bytes) (setting : code-setting.Setting) (room : ℕ) (s : code.Sta
 
 pub own-stored : {s : code.State} {best states entries : ℕ} {o : code-outcome.Outcome} → Own s best states entries o → {r : Bytes} {words : List ℕ} {n : List Entry} → Stored r words entries n → Stored r words (o .entries) n
 own-stored w {r} {words} {n} st = subst (λ (k : ℕ). Stored r words k n) (sym (w .memo)) st
+
+-- ---- the root
+
+module _ (r : Bytes) (ok : check r ≡ accepted) (s : code.State) (e : stateOf s ≡ root r (pairs r)) where
+  root-part : (p : ℕ) → Mem p (root r (pairs r) .pieces) → Connected r p
+  unfolding root
+  root-part p i = let q : p ≡ allBonds r = mem-one i in rw q (all-connected r ok)
+
+  root-both : length (root r (pairs r) .pieces) + length (root r (pairs r) .removals) ≤ 32
+  unfolding root
+  root-both = omega arith
+
+  root-next : root r (pairs r) .next ≡ 0
+  unfolding root
+  root-next = refl
+
+  root-sum : sumOf size (root r (pairs r) .pieces) ≡ bonds r
+  unfolding root
+  root-sum = omega (arith, size-first (bonds r))
+
+  pub root-entered : (s .count ≡ 1) × (s .removed ≡ 0) → Entered r s
+  root-entered n = record {
+    fine = subst (Fine r (pairs r)) (sym e) (root-fine r ok (pairs r) (table-laws r ok));
+    connected = subst (λ (x : State). (p : ℕ) → Mem p (x .pieces) → Connected r p) (sym e) root-part;
+    pieces = omega (arith, n .0);
+    removals = omega (arith, n .1);
+    both = subst (λ (x : State). length (x .pieces) + length (x .removals) ≤ 32) (sym e) root-both;
+    after = omega (arith, ap (λ (x : State). x .next) e, root-next);
+  }
+
+  -- a removal strikes two bonds at least, so the depth of the search is enough
+  pub root-found : (setting : code-setting.Setting) (room n : ℕ) → bonds r ≡ n → (o : code-outcome.Outcome) (words : List ℕ) → Visited r setting room s (n - 1) 0 [] o words → Found r setting room o words
+  unfolding search
+  root-found setting room n q o words w =
+      let h : sumOf size (stateOf s .pieces) ≡ bonds r = ap (λ (x : State). sumOf size (x .pieces)) e ∙ root-sum in
+      subst (λ (x : State). Follows r (bonds r - 1) o words (visit r (pairs r) (settingOf setting) room (bonds r) x (runOf (bonds r - 1) 0 []))) e
+      (rw q (w n (omega arith) (omega (arith, some r ok))))
