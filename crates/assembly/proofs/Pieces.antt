@@ -1,31 +1,31 @@
 -- The big components by the words, lists written piece by piece, and that what is written is what the definitions say. Assumes nothing.
 use mathlib.Core.Path.{_≡_, refl, sym, ap, _∙_}
 use mathlib.Core.Logic.{_⊎_, inl, inr, _≢_}
-use mathlib.Core.Bool.{Bool, true, false}
+use mathlib.Core.Bool.{true, false}
 use mathlib.Core.List.{List, [], _∷_, _++_, flatMap, append-assoc, append-nil, List·Memᴰ as Mem, List·Memᴰ·head as m-head, List·Memᴰ·tail as m-tail}
-use Prim.Native.Nat.{ℕ, suc, _+_, _-_, _*_, _^_, _≤_, _<_}
+use Prim.Native.Nat.{ℕ, _+_, _-_, _*_, _^_, _≤_, _<_}
 use native.Mathlib.Omega.{arith}
 use native.Mathlib.Nat.{lt-of-not-le}
 use native.Mathlib.Numerals.{add-one}
 use lib.Bits.{bitAnd, and-le-r}
-use lib.Dec.{leb, eqb}
-use lib.ListN.{length, getD, take, drop, set, length-append, length-drop, take-append-drop}
+use lib.Dec.{leb}
+use lib.ListN.{length, getD, take, drop, set, length-append, take-append-drop}
 use lib.Seq.{length-take-le, take-all, take-suc, drop-cons, take-at, drop-append-add, drop-drop}
-use borrow.Author.Tests.{leb-true, leb-false, le-leb, lt-leb, eqb-true, eqb-false, eq-eqb, ne-eqb}
-use Rattle.bitset.specs.Bits.{bit, Sub, Disjoint, size, diff, low, isDisjoint, WithoutLowest}
+use borrow.Author.Tests.{leb-true, le-leb, lt-leb, eqb-true, eqb-false, eq-eqb, ne-eqb}
+use Rattle.bitset.specs.Bits.{size, diff, low, isDisjoint, WithoutLowest}
 use Rattle.bitset.proofs.Bools.{two}
-use Rattle.bitset.proofs.Laws.{size-empty, size-zero, size-mono, size-minus, size-diff, low-bit, same, bit-diff, bit-empty, bit-le}
+use Rattle.bitset.proofs.Laws.{size-empty, size-zero, size-mono, size-minus, low-bit}
 use Rattle.bitset.proofs.Members.{diff-sub, not-empty}
 use Rattle.bitset.proofs.Decide.{sets, v, and, less, sub, apart, is, none}
-use Rattle.molecule.specs.Lists.{Bytes, pick, filter}
-use Rattle.molecule.specs.Touch.{reach, parts, component, components, touching, touchingWords}
+use Rattle.molecule.specs.Lists.{Bytes, filter}
+use Rattle.molecule.specs.Touch.{reach, parts, component, components, touching}
 use Rattle.molecule.specs.Connected.{Own, Connected}
 use Rattle.molecule.proofs.Growing.{lead, rest, rest-word, rest-less, reach-one, reach-sub, parts-by, parts-step, parts-none}
 use Rattle.molecule.proofs.Components.{own-sub, own-word, low-in, component-self, components-words}
-use Rattle.molecule.proofs.Lists.{Front, front-length, front-put, at-mem}
+use Rattle.molecule.proofs.Lists.{Front, front-length, front-put}
 use Rattle.bounds.specs.Numbers.{sumOf}
-use Rattle.matches.specs.Table.{Pair, pair, sizeOf}
-use Rattle.search.specs.State.{State, struck, bigComponents, keep, remove, child}
+use Rattle.matches.specs.Table.{Pair, sizeOf}
+use Rattle.search.specs.State.{State, bigComponents, keep, remove, child}
 use Rattle.assembly.specs.Pieces.{big, fallen, Big, Owned, Held, Chosen}
 
 -- ---- the big components

@@ -10,7 +10,7 @@ use Rattle.molecule.specs.Record.{bonds}
 use Rattle.molecule.specs.Touch.{parts, touchingWords}
 use Rattle.molecule.specs.Connected.{Own, Connected}
 use Rattle.bounds.specs.Numbers.{sumOf}
-use Rattle.matches.specs.Table.{Pair, pair, sizeOf}
+use Rattle.matches.specs.Table.{Pair, pair}
 use Rattle.search.specs.State.{struck}
 
 -- the components of s that have two or more bonds, where touch has the bonds next to each bond

@@ -1,6 +1,6 @@
 // A state of the search by value (src/state.rs), and the pieces that a removal leaves.
 ghost use mathlib.Core.Path.{_≡_};
-ghost use mathlib.Core.List.{List, [], _∷_, _++_};
+ghost use mathlib.Core.List.{List, _++_};
 ghost use Prim.Native.Nat.{ℕ, _+_, _-_, _*_, _^_, _≤_, _<_};
 ghost use lib.ListN.{length, take, drop};
 ghost use Rattle.bitset.specs.Bits.{size, diff};

@@ -1,10 +1,10 @@
 -- `assembly::state::push_big` meets its contract: what is written, and the big components of what is left, are all of them. Assumes nothing.
 use borrow.Author.Needs.{needs, scaled-fits}
-use mathlib.Core.Path.{_≡_, ap, _∙_}
+use mathlib.Core.Path.{_≡_}
 use Prim.Native.Nat.{_≤_, _<_}
 use native.Mathlib.Omega.{arith}
 use lib.ListN.{length}
-use Rattle.bitset.specs.Bits.{size, WithoutLowest}
+use Rattle.bitset.specs.Bits.{size}
 use Rattle.molecule.proofs.Growing.{lead, rest}
 use Rattle.assembly.proofs.Pieces.{near, lead-some, one-bond, two-bonds, Pushing, pushing-start, pushing-length, pushing-less, pushing-pass, pushing-room, pushing-take, pushing-done}
 use Rattle.assembly.proofs.state.push_big.Statement.{statement}

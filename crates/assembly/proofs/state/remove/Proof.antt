@@ -1,12 +1,12 @@
 -- `assembly::state::remove` meets its contract: after i turns what the first i pieces fall into is written. Assumes nothing.
 use borrow.Author.Needs.{needs, scaled-fits}
-use mathlib.Core.Path.{_≡_, sym, ap, _∙_}
-use mathlib.Core.List.{List, [], _∷_, _++_, flatMap}
-use Prim.Native.Nat.{ℕ, _+_, _*_, _-_, _^_, _≤_, _<_}
+use mathlib.Core.Path.{_≡_, sym}
+use mathlib.Core.List.{flatMap}
+use Prim.Native.Nat.{ℕ, _-_, _^_, _<_}
 use native.Mathlib.Omega.{arith}
 use lib.ListN.{length, getD, length-set}
 use Rattle.bitset.specs.Bits.{size, diff}
-use Rattle.molecule.proofs.Lists.{Front, front-put, at-mem}
+use Rattle.molecule.proofs.Lists.{front-put, at-mem}
 use Rattle.assembly.specs.Pieces.{fallen}
 use Rattle.assembly.proofs.Pieces.{Written, written-start, written-length, written-room, written-next, written-done, fallen-room, remove-is}
 use Rattle.assembly.proofs.state.remove.Statement.{statement}
