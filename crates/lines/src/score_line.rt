@@ -4,10 +4,6 @@ ghost use Rattle.search.specs.Answer.{scoreAnswer};
 ghost use Rattle.assembly.specs.Follows.{settingOf};
 ghost use Rattle.assembly.specs.Answer.{answerOf, roomOf};
 ghost use Rattle.lines.specs.Lent.{Held, HeldRoom};
-use assembly::answer::Score;
-use assembly::answer::Scored;
-use assembly::score;
-use assembly::visit::Setting;
 use crate::Answer;
 use crate::hex;
 use crate::hex::Bytes;
@@ -17,6 +13,10 @@ use crate::numbers::Number;
 use crate::output;
 use crate::words;
 use crate::words::Word;
+use assembly::answer::Score;
+use assembly::answer::Scored;
+use assembly::score;
+use assembly::visit::Setting;
 
 // How many elements the trail and each table have.
 pub struct Lent {
@@ -45,7 +45,11 @@ pub fn answer(line: &[u8], command: Word, out: &mut [u8; 4096], at: usize) -> An
     let bounds = words::next_word(line, first);
     let memo = words::next_word(line, bounds);
     let budget = words::next_word(line, memo);
-    let Asked::With(setting) = setting_of(words::text(line, bounds), words::text(line, memo), words::text(line, budget)) else {
+    let Asked::With(setting) = setting_of(
+        words::text(line, bounds),
+        words::text(line, memo),
+        words::text(line, budget),
+    ) else {
         return Answer::Unreadable;
     };
     let Room::Lengths(lent) = lengths(line, budget) else {

@@ -1,6 +1,6 @@
 -- `capi::replied` meets its contract, case by case. Assumes nothing.
 use borrow.Author.Needs.{needs}
-use mathlib.Core.Path.{sym, ap, _∙_}
+use mathlib.Core.Path.{sym, ap, ap₂, _∙_}
 use Rattle.capi.specs.Reply.{turned, replyOf}
 use Rattle.capi.proofs.replied.Statement.{statement}
 use Rattle.capi.proofs.replied.Tie as tie
@@ -60,7 +60,7 @@ returns : tie.Need-returns
 returns c = sym (ap replyOf (c .before .scored .given .1))
 
 returns-2 : tie.Need-returns-2
-returns-2 c = c .row .ensures ∙ rw (c .before .number .ensures) (rw (c .before .place .ensures)) ∙ sym (ap replyOf (c .before .before .before .before .scored2 .given .1))
+returns-2 c = c .row .ensures ∙ ap₂ turned (c .before .before .number .ensures) (c .before .place .ensures) ∙ sym (ap replyOf (c .before .before .before .before .scored2 .given .1))
 
 returns-3 : tie.Need-returns-3
 returns-3 c = c .row2 .ensures ∙ sym (ap replyOf (c .before .enum-told .given .1))
