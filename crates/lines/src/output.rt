@@ -64,6 +64,11 @@ pub fn put_number(out: &mut [u8; 4096], at: usize, n: u64) -> usize {
     put_decimal(out, space, n)
 }
 
+// The same of a number of 32 bits.
+pub fn put_short(out: &mut [u8; 4096], at: usize, n: u32) -> usize {
+    put_number(out, at, n as u64)
+}
+
 // Puts `refused NUMBER PLACE`.
 pub fn put_refused(out: &mut [u8; 4096], at: usize, number: u64, place: u64) -> usize {
     let word = put_text(out, at, b"refused");

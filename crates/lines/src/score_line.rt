@@ -154,15 +154,20 @@ fn put_score(bytes: &[u8], setting: Setting, lent: Lent, out: &mut [u8; 4096], a
     let mut second = [0u64; 65536];
     let mut third = [0u64; 163840];
     let mut fourth = [0u64; 5000];
-    let trail = &mut space[0..lent.trail];
+    let numbers = lent.trail;
+    let parts = lent.parts;
+    let pairs = lent.pairs;
+    let memo = lent.memo;
+    let desk = lent.desk;
+    let trail = &mut space[0..numbers];
     let scored = score_over(
         bytes,
         setting,
         trail,
-        &mut first[0..lent.parts],
-        &mut second[0..lent.pairs],
-        &mut third[0..lent.memo],
-        &mut fourth[0..lent.desk],
+        &mut first[0..parts],
+        &mut second[0..pairs],
+        &mut third[0..memo],
+        &mut fourth[0..desk],
     );
     put_scored(out, at, scored, trail)
 }
@@ -188,17 +193,17 @@ fn put_scored(out: &mut [u8; 4096], at: usize, scored: Scored, trail: &[u32]) ->
 // Puts what a score holds, and its removals: the first numbers of the trail.
 fn put_held(out: &mut [u8; 4096], at: usize, s: Score, trail: &[u32]) -> usize {
     let word = output::put_text(out, at, b"scored");
-    let index = output::put_number(out, word, s.index as u64);
+    let index = output::put_short(out, word, s.index);
     let matches = output::put_number(out, index, s.matches);
-    let states = output::put_number(out, matches, s.states as u64);
+    let states = output::put_short(out, matches, s.states);
     let k = s.length as usize;
-    let mut end = output::put_number(out, states, s.length as u64);
+    let mut end = output::put_short(out, states, s.length);
     let mut i = 0;
     while i < trail.len() {
         if k <= i {
             return end;
         }
-        end = output::put_number(out, end, trail[i] as u64);
+        end = output::put_short(out, end, trail[i]);
         i += 1;
     }
     end
