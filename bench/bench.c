@@ -1,6 +1,7 @@
-/* Times the match table through libcapi.a: a line 'RECORD ...' on standard input, a line 'matches_ns repeats matches' on standard
- * output. A time is the least of at least 3 calls. The tables are as large as the call needs: they are doubled while it is turned
- * back by row 9 or 10. */
+/* Times the match table and score through libcapi.a: a line 'RECORD BOUNDS MEMO ..' on standard input, a line 'matches_ns score_ns repeats
+ * index matches states k t0 t1 ..' on standard output. A time is the least of at least 3 calls, of the whole call, clearing included; repeats
+ * is how often score was called for it. The tables are as large as the call needs: they are doubled while it is turned back by row 9, 10
+ * or 12. The budget is the largest there is. */
 #define _POSIX_C_SOURCE 200809L
 #include <stdint.h>
 #include <stdio.h>
@@ -10,22 +11,33 @@
 
 #include "../host/pazgelk.h"
 
-enum { LINE = 65536, RECORD = 4096 };
+enum { LINE = 65536, RECORD = 4096, TRAIL = 32, DESK = 4096 };
 
 struct table {
     uint64_t *words;
     size_t length;
 };
 
-static void grow(struct table *t)
+static uint8_t record[RECORD];
+static size_t length;
+static uint32_t bounds, memo_on, trail[TRAIL];
+static uint64_t desk[DESK];
+static struct table parts, pairs, memo;
+
+static void *checked(void *got)
 {
-    t->length *= 2;
-    t->words = realloc(t->words, t->length * sizeof *t->words);
-    if (t->words == NULL) {
+    if (got == NULL) {
         perror("bench");
         exit(1);
     }
-    memset(t->words, 0, t->length * sizeof *t->words);
+    return got;
+}
+
+static void grow(struct table *t, size_t words)
+{
+    t->length = words;
+    t->words = checked(realloc(t->words, words * sizeof *t->words));
+    memset(t->words, 0, words * sizeof *t->words);
 }
 
 static uint64_t now(void)
@@ -44,43 +56,75 @@ static size_t bytes_of(const char *hex, uint8_t *out)
     return n;
 }
 
+static struct pazgelk_reply count(void)
+{
+    return assembly_matches(record, length, parts.words, parts.length, pairs.words, pairs.length);
+}
+
+static struct pazgelk_score score(void)
+{
+    return assembly_score(record, length, bounds, memo_on, UINT32_MAX, trail, TRAIL, parts.words, parts.length, pairs.words, pairs.length,
+                          memo.words, memo.length, desk, DESK);
+}
+
+/* Makes the tables as large as score needs; its answer. */
+static struct pazgelk_score fitted(void)
+{
+    for (;;) {
+        struct pazgelk_score reply = score();
+        if (reply.number == 9)
+            grow(&parts, 2 * parts.length);
+        else if (reply.number == 10)
+            grow(&pairs, 2 * pairs.length);
+        else if (reply.number == 12)
+            grow(&memo, 2 * memo.length);
+        else if (reply.number == 0)
+            return reply;
+        else {
+            fprintf(stderr, "bench: refused %u %llu\n", reply.number, (unsigned long long)reply.place);
+            exit(1);
+        }
+    }
+}
+
+/* The least time of at least 3 calls, in some 200 ms. */
+static uint64_t timed(int scores, unsigned *repeats)
+{
+    uint64_t least = UINT64_MAX, begin = now();
+    for (*repeats = 0; *repeats < 3 || now() - begin < 200000000u; ++*repeats) {
+        uint64_t start = now();
+        if (scores)
+            score();
+        else
+            count();
+        uint64_t taken = now() - start;
+        if (taken < least)
+            least = taken;
+    }
+    return least;
+}
+
 int main(void)
 {
-    static char line[LINE];
-    static uint8_t record[RECORD];
+    static char line[LINE], hex[LINE];
     while (fgets(line, sizeof line, stdin)) {
-        struct table parts = {NULL, 2048}, pairs = {NULL, 2048};
-        line[strcspn(line, " \n")] = '\0';
-        size_t length = bytes_of(line, record);
-        grow(&parts);
-        grow(&pairs);
-        struct pazgelk_reply reply;
-        for (;;) {
-            reply = assembly_matches(record, length, parts.words, parts.length, pairs.words, pairs.length);
-            if (reply.number == 9)
-                grow(&parts);
-            else if (reply.number == 10)
-                grow(&pairs);
-            else
-                break;
-        }
-        if (reply.number != 0) {
-            fprintf(stderr, "bench: refused %u %llu\n", reply.number, (unsigned long long)reply.place);
+        if (sscanf(line, "%s %u %u", hex, &bounds, &memo_on) != 3) {
+            fprintf(stderr, "bench: a line is RECORD BOUNDS MEMO\n");
             return 1;
         }
-        uint64_t least = UINT64_MAX, begin = now();
-        unsigned repeats = 0;
-        while (repeats < 3 || now() - begin < 200000000u) {
-            uint64_t start = now();
-            reply = assembly_matches(record, length, parts.words, parts.length, pairs.words, pairs.length);
-            uint64_t taken = now() - start;
-            if (taken < least)
-                least = taken;
-            repeats++;
-        }
-        printf("%llu %u %llu\n", (unsigned long long)least, repeats, (unsigned long long)reply.place);
-        free(parts.words);
-        free(pairs.words);
+        length = bytes_of(hex, record);
+        grow(&parts, 4096);
+        grow(&pairs, 4096);
+        grow(&memo, memo_on ? 4096 : 1);
+        struct pazgelk_score reply = fitted();
+        unsigned repeats;
+        uint64_t matches_ns = timed(0, &repeats), score_ns = timed(1, &repeats);
+        printf("%llu %llu %u %u %llu %u %u", (unsigned long long)matches_ns, (unsigned long long)score_ns, repeats, reply.index,
+               (unsigned long long)reply.matches, reply.states, reply.length);
+        for (size_t i = 0; i < reply.length; i++)
+            printf(" %u", trail[i]);
+        putchar('\n');
+        fflush(stdout);
     }
     return 0;
 }

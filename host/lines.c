@@ -8,10 +8,17 @@
 
 #include "pazgelk.h"
 
-enum { LINE = 4096, BUFFER = 1024, WORDS = 65536 };
+enum { LINE = 4096, BUFFER = 1024, TRAIL = 40, CLEARED = 32 };
 
-/* The tables that are lent, and how many words each has. */
-static uint64_t *parts, *pairs, table_words = WORDS;
+/* A table that may be lent: how many words it has, how many are lent where a line does not say, and the words. */
+struct table {
+    const char *name;
+    uint64_t room, usual, *words;
+};
+
+static struct table parts = {"parts", 65536, 65536, NULL}, pairs = {"pairs", 65536, 65536, NULL};
+static struct table memo = {"memo", 163840, 163840, NULL}, desk = {"desk", 5000, 4096, NULL};
+static struct table *const tables[] = {&parts, &pairs, &memo, &desk};
 
 static int digit(int c)
 {
@@ -69,9 +76,9 @@ static int words_of(char *line, char **words, int most)
     return n;
 }
 
-static void put_refused(struct pazgelk_reply reply)
+static void put_refused(uint32_t number, uint64_t place)
 {
-    printf("refused %u %llu\n", reply.number, (unsigned long long)reply.place);
+    printf("refused %u %llu\n", number, (unsigned long long)place);
 }
 
 /* check HEX */
@@ -85,7 +92,7 @@ static int answer_check(char **words)
     if (reply.number == 0)
         puts("accepted");
     else
-        put_refused(reply);
+        put_refused(reply.number, reply.place);
     return 1;
 }
 
@@ -107,7 +114,7 @@ static int answer_label(char **words)
             return 1;
         }
     if (reply.number != 0) {
-        put_refused(reply);
+        put_refused(reply.number, reply.place);
         return 1;
     }
     fputs("label ", stdout);
@@ -117,78 +124,148 @@ static int answer_label(char **words)
     return 1;
 }
 
-/* What a word of a table is filled with: never 0. */
+/* What an element is filled with: never 0, in 32 bits too. */
 static uint64_t noise(size_t i)
 {
     return (uint64_t)i * 0x9e3779b97f4a7c15u | 1;
 }
 
-static void fill(uint64_t *table, size_t words)
+static void fill(struct table *table)
 {
-    for (size_t i = 0; i < words; i++)
-        table[i] = noise(i);
+    for (size_t i = 0; i < table->room; i++)
+        table->words[i] = noise(i);
 }
 
-/* Ends the program where the table is not as it must be: the first words 0, those from there on as they were filled. */
-static void hold(const char *name, const uint64_t *table, size_t zeros, size_t words)
+/* Ends the program: an element is not as it must be. */
+static void broken(const char *name, size_t i, const char *how)
 {
-    for (size_t i = 0; i < words; i++)
-        if (table[i] != (i < zeros ? 0 : noise(i))) {
-            fflush(stdout);
-            fprintf(stderr, "word %zu of %s is %s\n", i, name, i < zeros ? "not cleared" : "touched");
-            exit(1);
-        }
+    fflush(stdout);
+    fprintf(stderr, "element %zu of %s is %s\n", i, name, how);
+    exit(1);
+}
+
+/* A table after a call: where it is cleared the words that were lent are 0; all others are as they were filled. */
+static void hold(const struct table *table, int cleared, uint64_t lent)
+{
+    size_t zeros = cleared ? (size_t)lent : 0;
+    for (size_t i = 0; i < table->room; i++)
+        if (table->words[i] != (i < zeros ? 0 : noise(i)))
+            broken(table->name, i, i < zeros ? "not cleared" : "touched");
+}
+
+/* The trail after a call: of a score with k removals those after the first k are 0 up to 32; all others are as they were filled. */
+static void hold_trail(const uint32_t *trail, int scored, size_t k)
+{
+    if (scored && k > CLEARED)
+        broken("trail", k, "past the first 32");
+    for (size_t i = scored ? k : 0; i < TRAIL; i++) {
+        int zero = scored && i < CLEARED;
+        if (trail[i] != (zero ? 0 : (uint32_t)noise(i)))
+            broken("trail", i, zero ? "not 0" : "touched");
+    }
+}
+
+/* A length in decimal that the table has. */
+static int length_of(const char *word, uint64_t room, uint64_t *value)
+{
+    return number_of(word, 10, 19, value) && *value <= room;
 }
 
 /* matches HEX [PARTS PAIRS]: the tables are filled with a pattern, and looked at afterwards, also past the words that are lent. */
 static int answer_matches(char **words, int n)
 {
     uint8_t record[LINE / 2];
-    uint64_t lent[2] = {table_words, table_words};
+    uint64_t lent[2] = {parts.usual, pairs.usual};
     ssize_t length = bytes_of(words[1], record);
     if (length < 0)
         return 0;
     for (int i = 2; i < n; i++)
-        if (!number_of(words[i], 10, 19, &lent[i - 2]) || lent[i - 2] > table_words)
+        if (!length_of(words[i], tables[i - 2]->room, &lent[i - 2]))
             return 0;
-    fill(parts, table_words);
-    fill(pairs, table_words);
-    struct pazgelk_reply reply = assembly_matches(record, (size_t)length, parts, (size_t)lent[0], pairs, (size_t)lent[1]);
-    int untouched = reply.number >= 1 && reply.number <= 6;
-    hold("parts", parts, untouched ? 0 : (size_t)lent[0], table_words);
-    hold("pairs", pairs, untouched ? 0 : (size_t)lent[1], table_words);
+    fill(&parts);
+    fill(&pairs);
+    struct pazgelk_reply reply = assembly_matches(record, (size_t)length, parts.words, (size_t)lent[0], pairs.words, (size_t)lent[1]);
+    int cleared = reply.number == 0 || reply.number > 6;
+    hold(&parts, cleared, lent[0]);
+    hold(&pairs, cleared, lent[1]);
     if (reply.number == 0)
         printf("matches %llu\n", (unsigned long long)reply.place);
     else
-        put_refused(reply);
+        put_refused(reply.number, reply.place);
+    return 1;
+}
+
+/* score HEX BOUNDS MEMO BUDGET [TRAIL PARTS PAIRS MEMO DESK]: the same, with the trail. */
+static int answer_score(char **words, int n)
+{
+    uint8_t record[LINE / 2];
+    uint32_t trail[TRAIL];
+    uint64_t setting[3], numbers = CLEARED, lent[4];
+    ssize_t length = bytes_of(words[1], record);
+    if (length < 0)
+        return 0;
+    for (int i = 0; i < 3; i++)
+        if (!length_of(words[2 + i], UINT32_MAX, &setting[i]))
+            return 0;
+    if (n == 10 && !length_of(words[5], TRAIL, &numbers))
+        return 0;
+    for (int i = 0; i < 4; i++) {
+        lent[i] = tables[i]->usual;
+        if (n == 10 && !length_of(words[6 + i], tables[i]->room, &lent[i]))
+            return 0;
+    }
+    for (size_t i = 0; i < TRAIL; i++)
+        trail[i] = (uint32_t)noise(i);
+    for (int i = 0; i < 4; i++)
+        fill(tables[i]);
+    struct pazgelk_score reply =
+        assembly_score(record, (size_t)length, (uint32_t)setting[0], (uint32_t)setting[1], (uint32_t)setting[2], trail, (size_t)numbers,
+                       parts.words, (size_t)lent[0], pairs.words, (size_t)lent[1], memo.words, (size_t)lent[2], desk.words, (size_t)lent[3]);
+    hold_trail(trail, reply.number == 0, reply.length);
+    for (int i = 0; i < 4; i++)
+        hold(tables[i], reply.number == 0 || reply.number > 8, lent[i]);
+    if (reply.number != 0) {
+        put_refused(reply.number, reply.place);
+        return 1;
+    }
+    printf("scored %u %llu %u %u", reply.index, (unsigned long long)reply.matches, reply.states, reply.length);
+    for (size_t i = 0; i < reply.length; i++)
+        printf(" %u", trail[i]);
+    putchar('\n');
     return 1;
 }
 
 /* Answers a line; 0 where it cannot be read. */
 static int answer(char *line)
 {
-    char *words[4];
-    int n = words_of(line, words, 4);
+    char *words[10];
+    int n = words_of(line, words, 10);
     if (n == 2 && strcmp(words[0], "check") == 0)
         return answer_check(words);
     if (n == 4 && strcmp(words[0], "label") == 0)
         return answer_label(words);
     if ((n == 2 || n == 4) && strcmp(words[0], "matches") == 0)
         return answer_matches(words, n);
+    if ((n == 5 || n == 10) && strcmp(words[0], "score") == 0)
+        return answer_score(words, n);
     return 0;
 }
 
-/* lines [WORDS]: each table has so many words. */
+/* lines [PARTS PAIRS MEMO]: these tables have so many words, all of which are lent where a line does not say. */
 int main(int count, char **arguments)
 {
-    if (count > 2 || (count == 2 && !number_of(arguments[1], 10, 9, &table_words))) {
-        fprintf(stderr, "usage: %s [WORDS]\n", arguments[0]);
+    int good = count == 1 || count == 4;
+    for (int i = 1; i < count && good; i++) {
+        good = number_of(arguments[i], 10, 9, &tables[i - 1]->room);
+        tables[i - 1]->usual = tables[i - 1]->room;
+    }
+    if (!good) {
+        fprintf(stderr, "usage: %s [PARTS PAIRS MEMO]\n", arguments[0]);
         return 2;
     }
-    parts = malloc(table_words * sizeof *parts + 1);
-    pairs = malloc(table_words * sizeof *pairs + 1);
-    if (parts == NULL || pairs == NULL)
-        return 2;
+    for (int i = 0; i < 4; i++)
+        if ((tables[i]->words = malloc(tables[i]->room * sizeof(uint64_t) + 1)) == NULL)
+            return 2;
     char *line = NULL;
     size_t room = 0;
     ssize_t length;
@@ -199,7 +276,7 @@ int main(int count, char **arguments)
             printf("unreadable %lu\n", number);
     }
     free(line);
-    free(parts);
-    free(pairs);
+    for (int i = 0; i < 4; i++)
+        free(tables[i]->words);
     return ferror(stdin) || fflush(stdout) != 0;
 }

@@ -3,8 +3,15 @@ ghost use mathlib.Core.Path.{_≡_};
 ghost use Rattle.molecule.specs.Check.{check, number, place};
 ghost use Rattle.molecule.specs.Verdict.{numberOf, placeOf};
 ghost use Rattle.canonize.specs.Answer.{number as labelNumber, value as labelValue, labelAnswer, bufferAfter};
-ghost use lib.ListN.{length};
+ghost use lib.ListN.{length, take};
 ghost use Rattle.matches.specs.Counted.{number as countNumber, value as countValue, countAnswer, tableAfter};
+ghost use Rattle.search.specs.Answer.{scoreAnswer, trailAfter, tableAfter as scoreTableAfter};
+ghost use Rattle.assembly.specs.Answer.{roomOf};
+ghost use Rattle.assembly.specs.Demand.{Demand3};
+ghost use Rattle.capi.specs.Reply.{asked, turned, replyOf, Replies};
+use assembly::answer::Scored;
+use assembly::score;
+use assembly::visit::Setting;
 use canonize::Labelled;
 use matches::count::Counted;
 use molecule::Fault;
@@ -87,4 +94,82 @@ pub extern "C" fn assembly_matches(bytes: &[u8], parts: &mut [u64], pairs: &mut 
             place: n,
         },
     }
+}
+
+// score's answer. Number 0: the index, the matches, the states entered, and how many removals the trail has; place is 0. Else the row and its place; the other four are 0.
+#[repr(C)]
+pub struct ScoreReply {
+    pub number: u32,
+    pub index: u32,
+    pub place: u64,
+    pub matches: u64,
+    pub states: u32,
+    pub length: u32,
+}
+
+// A row.
+fn row(number: u32, place: u64) -> ScoreReply
+    ensures { λ r. ⌜ r ≡ turned number place ⌝ }
+{
+    ScoreReply {
+        number,
+        index: 0,
+        place,
+        matches: 0,
+        states: 0,
+        length: 0,
+    }
+}
+
+// The reply to each case of score's enum.
+fn replied(scored: Scored) -> ScoreReply
+    ensures { λ r. ⌜ r ≡ replyOf scored ⌝ }
+{
+    match scored {
+        Scored::Score(s) => ScoreReply {
+            number: 0,
+            index: s.index,
+            place: 0,
+            matches: s.matches,
+            states: s.states,
+            length: s.length,
+        },
+        Scored::Record(fault) => row(molecule::number(fault), molecule::place(fault)),
+        Scored::Setting => row(7, 0),
+        Scored::Lent => row(8, 0),
+        Scored::Parts(k) => row(9, k),
+        Scored::Pairs(n) => row(10, n),
+        Scored::Budget(n) => row(11, n),
+        Scored::Memo(n) => row(12, n),
+    }
+}
+
+// score.
+#[no_mangle]
+pub extern "C" fn assembly_score(
+    bytes: &[u8],
+    bounds: u32,
+    memo: u32,
+    budget: u32,
+    trail: &mut [u32],
+    parts: &mut [u64],
+    pairs: &mut [u64],
+    entries: &mut [u64],
+    desk: &mut [u64],
+) -> ScoreReply
+    ensures answer { λ r. ⌜ Replies r (scoreAnswer (now (bytes .entry)) (asked bounds memo budget) (roomOf (now (trail .entry)) (now (parts .entry)) (now (pairs .entry)) (now (entries .entry)) (now (desk .entry)))) ⌝ }
+    ensures trail { λ r. ⌜ now (trail .exit) ≡ trailAfter (scoreAnswer (now (bytes .entry)) (asked bounds memo budget) (roomOf (now (trail .entry)) (now (parts .entry)) (now (pairs .entry)) (now (entries .entry)) (now (desk .entry)))) (now (trail .entry)) ⌝ }
+    ensures parts { λ r. ⌜ now (parts .exit) ≡ scoreTableAfter (scoreAnswer (now (bytes .entry)) (asked bounds memo budget) (roomOf (now (trail .entry)) (now (parts .entry)) (now (pairs .entry)) (now (entries .entry)) (now (desk .entry)))) (now (parts .entry)) ⌝ }
+    ensures pairs { λ r. ⌜ now (pairs .exit) ≡ scoreTableAfter (scoreAnswer (now (bytes .entry)) (asked bounds memo budget) (roomOf (now (trail .entry)) (now (parts .entry)) (now (pairs .entry)) (now (entries .entry)) (now (desk .entry)))) (now (pairs .entry)) ⌝ }
+    ensures entries { λ r. ⌜ now (entries .exit) ≡ scoreTableAfter (scoreAnswer (now (bytes .entry)) (asked bounds memo budget) (roomOf (now (trail .entry)) (now (parts .entry)) (now (pairs .entry)) (now (entries .entry)) (now (desk .entry)))) (now (entries .entry)) ⌝ }
+    ensures desk { λ r. ⌜ now (desk .exit) ≡ scoreTableAfter (scoreAnswer (now (bytes .entry)) (asked bounds memo budget) (roomOf (now (trail .entry)) (now (parts .entry)) (now (pairs .entry)) (now (entries .entry)) (now (desk .entry)))) (now (desk .entry)) ⌝ }
+    ensures demand3 { λ r. ⌜ (r .number ≡ 0 → Demand3 (now (bytes .entry)) memo budget (r .index) (r .states) (take (r .length) (now (trail .exit)))) ⌝ }
+{
+    let setting = Setting {
+        bounds,
+        memo,
+        budget,
+    };
+    let scored = score::score(bytes, setting, trail, parts, pairs, entries, desk);
+    replied(scored)
 }

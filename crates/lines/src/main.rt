@@ -9,6 +9,7 @@ mod matches_line;
 mod noise;
 mod numbers;
 mod output;
+mod score_line;
 mod words;
 
 // What a command makes of its line. Put: it put an answer, and so many bytes are to be written. Unreadable: it put
@@ -23,6 +24,7 @@ enum Command {
     Check,
     Label,
     Matches,
+    Score,
     Unknown,
 }
 
@@ -45,6 +47,9 @@ fn command_of(name: &[u8]) -> Command {
     if compare::equal(name, b"matches") {
         return Command::Matches;
     }
+    if compare::equal(name, b"score") {
+        return Command::Score;
+    }
     Command::Unknown
 }
 
@@ -55,6 +60,7 @@ fn answer_line(line: &[u8], out: &mut [u8; 4096], at: usize) -> Answer {
         Command::Check => check_line::answer(line, word, out, at),
         Command::Label => label_line::answer(line, word, out, at),
         Command::Matches => matches_line::answer(line, word, out, at),
+        Command::Score => score_line::answer(line, word, out, at),
         Command::Unknown => Answer::Unreadable,
     }
 }

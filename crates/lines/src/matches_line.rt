@@ -3,7 +3,7 @@ ghost use mathlib.Core.Path.{_≡_};
 ghost use Prim.Native.Nat.{_≤_};
 ghost use lib.ListN.{length};
 ghost use Rattle.matches.specs.Counted.{countAnswer, answerOf};
-ghost use Rattle.lines.specs.Lengths.{LengthFits, LengthsFit};
+ghost use Rattle.lines.specs.Lengths.{LengthsFit};
 use crate::Answer;
 use crate::hex;
 use crate::hex::Bytes;
@@ -48,26 +48,13 @@ fn table_lengths(line: &[u8], record: Word) -> Lengths
     if !words::is_last(line, second) {
         return Lengths::Unreadable;
     }
-    let Number::Value(parts) = table_length(words::text(line, first)) else {
+    let Number::Value(parts) = numbers::number_to(words::text(line, first), 65536) else {
         return Lengths::Unreadable;
     };
-    let Number::Value(pairs) = table_length(words::text(line, second)) else {
+    let Number::Value(pairs) = numbers::number_to(words::text(line, second), 65536) else {
         return Lengths::Unreadable;
     };
     Lengths::Words(parts as usize, pairs as usize)
-}
-
-// A number in decimal of at most 65536.
-fn table_length(word: &[u8]) -> Number
-    ensures { λ r. ⌜ LengthFits r ⌝ }
-{
-    let Number::Value(n) = numbers::decimal_number(word) else {
-        return Number::Unreadable;
-    };
-    if 65536 < n {
-        return Number::Unreadable;
-    }
-    Number::Value(n)
 }
 
 // Counts with tables that hold noise.

@@ -12,3 +12,14 @@ pub fn fill(words: &mut [u64])
         i += 1;
     }
 }
+
+// The same of a trail.
+pub fn fill_numbers(numbers: &mut [u32])
+    ensures { λ _. ⌜ ((k : ℕ) → k < length (now (numbers .exit)) → 0 < getD (now (numbers .exit)) k 0) ⌝ }
+{
+    let mut i = 0;
+    while i < numbers.len() {
+        numbers[i] = (i as u64 % 65521 * 40503 % 65521 + 1) as u32;
+        i += 1;
+    }
+}

@@ -1,6 +1,7 @@
 // Numbers as a line has them.
 ghost use Prim.Native.Nat.{_^_, _≤_};
 ghost use Rattle.lines.specs.Numbers.{ReadAs};
+ghost use Rattle.lines.specs.Lengths.{AtMost};
 use crate::hex;
 
 // What a word is read as: a number, or nothing.
@@ -45,4 +46,17 @@ pub fn decimal_number(word: &[u8]) -> Number
     ensures { λ r. ⌜ ReadAs 10 19 (now (word .entry)) r ⌝ }
 {
     read(word, 10, 19)
+}
+
+// A number in decimal of at most most.
+pub fn number_to(word: &[u8], most: u64) -> Number
+    ensures { λ r. ⌜ AtMost most r ⌝ }
+{
+    let Number::Value(n) = decimal_number(word) else {
+        return Number::Unreadable;
+    };
+    if most < n {
+        return Number::Unreadable;
+    }
+    Number::Value(n)
 }

@@ -58,10 +58,20 @@ pub fn put_decimal(out: &mut [u8; 4096], at: usize, n: u64) -> usize {
     put_text(out, at, &digits[..k])
 }
 
+// Puts a space and a number in decimal.
+pub fn put_number(out: &mut [u8; 4096], at: usize, n: u64) -> usize {
+    let space = put(out, at, b' ');
+    put_decimal(out, space, n)
+}
+
+// The same of a number of 32 bits.
+pub fn put_short(out: &mut [u8; 4096], at: usize, n: u32) -> usize {
+    put_number(out, at, n as u64)
+}
+
 // Puts `refused NUMBER PLACE`.
 pub fn put_refused(out: &mut [u8; 4096], at: usize, number: u64, place: u64) -> usize {
-    let word = put_text(out, at, b"refused ");
-    let first = put_decimal(out, word, number);
-    let space = put(out, first, b' ');
-    put_decimal(out, space, place)
+    let word = put_text(out, at, b"refused");
+    let first = put_number(out, word, number);
+    put_number(out, first, place)
 }

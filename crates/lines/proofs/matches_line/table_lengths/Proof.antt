@@ -1,4 +1,4 @@
--- What table_length says of each length that it answers bounds both.
+-- What number_to says of each length that it answers bounds both.
 use borrow.Author.Needs.{needs}
 use Rattle.lines.proofs.matches_line.table_lengths.Statement.{statement}
 use Rattle.lines.proofs.matches_line.table_lengths.Tie as tie
@@ -24,8 +24,8 @@ returns-2 c = search needs
 text-requires : tie.Need-text-requires
 text-requires c κs = search needs
 
-table-length-requires : tie.Need-table-length-requires
-table-length-requires c κs = search needs
+number-to-requires : tie.Need-number-to-requires
+number-to-requires c κs = search needs
 
 enum-known-parts : tie.Need-enum-known-parts
 enum-known-parts c = search needs
@@ -39,8 +39,8 @@ returns-3 c = search needs
 text-requires-2 : tie.Need-text-requires-2
 text-requires-2 c κs = search needs
 
-table-length-requires-2 : tie.Need-table-length-requires-2
-table-length-requires-2 c κs = search needs
+number-to-requires-2 : tie.Need-number-to-requires-2
+number-to-requires-2 c κs = search needs
 
 enum-known-pairs : tie.Need-enum-known-pairs
 enum-known-pairs c = search needs
@@ -52,7 +52,7 @@ returns-4 : tie.Need-returns-4
 returns-4 c = search needs
 
 returns-5 : tie.Need-returns-5
-returns-5 c = (rw (c .before .before .before .before .before .before .parts .given .1) at (c .before .before .before .before .before .before .before .before .table-length .ensures), rw (c .before .pairs .given .1) at (c .before .before .before .table-length2 .ensures))
+returns-5 c = (rw (c .before .before .before .before .before .before .parts .given .1) at (c .before .before .before .before .before .before .before .before .number-to .ensures), rw (c .before .pairs .given .1) at (c .before .before .before .number-to2 .ensures))
 
 pub table-lengths-spec : {M : Type 1} → statement M
 table-lengths-spec =
@@ -65,12 +65,12 @@ table-lengths-spec =
     is-last-requires-2
     returns-2
     text-requires
-    table-length-requires
+    number-to-requires
     enum-known-parts
     enum-told
     returns-3
     text-requires-2
-    table-length-requires-2
+    number-to-requires-2
     enum-known-pairs
     enum-told-2
     returns-4

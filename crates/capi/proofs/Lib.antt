@@ -1,0 +1,2 @@
+pub mod Fewer
+pub mod Replying
