@@ -1,2 +1,3 @@
+-- The theory of the C replies.
 pub mod Fewer
 pub mod Replying
