@@ -1,5 +1,3 @@
--- The theory of the search's code.
-pub mod Branching
-pub mod Turns
+-- The theory of score's code.
 pub mod Scoring
 pub mod Starred

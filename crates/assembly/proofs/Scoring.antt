@@ -19,9 +19,9 @@ use Rattle.molecule.proofs.Lists.{zeros-at}
 use Rattle.matches.specs.Table.{Table, matchTable, pairs}
 use Rattle.matches.specs.Rows.{partsRoom, pairsRoom, overflows, tooMany, tableAnswer}
 use Rattle.matches.specs.Written.{Recorded}
-use Rattle.matches.specs.Built as built
+use Rattle.tabulate.specs.Built as built
 use Rattle.matches.proofs.Recorded.{pairs-length}
-use Rattle.matches.proofs.Answering.{counted-is, refused-is, after-room, after-recorded, after-length}
+use Rattle.tabulate.proofs.Answering.{counted-is, refused-is, after-room, after-recorded, after-length}
 use Rattle.search.specs.Setting.{Setting, Room, memoRoom}
 use Rattle.search.specs.Search as definition
 use Rattle.search.specs.Answer.{ScoreAnswer, scored, turnedBack, entryAnswer, searched, scoreAnswer, trailAfter, tableAfter}
@@ -30,9 +30,9 @@ use Rattle.search.proofs.Score as score
 use Rattle.assembly.specs.declared.answer.Score.{Score}
 use Rattle.assembly.specs.declared.answer.Scored.{Scored}
 use Rattle.assembly.specs.declared.answer.Scored.the-variants as says
-use Rattle.assembly.specs.declared.visit.Outcome.{Outcome}
+use Rattle.recurse.specs.declared.visit.Outcome.{Outcome}
 use Rattle.memoize.specs.Stored.{Cached, Stored}
-use Rattle.assembly.specs.Follows.{Follows}
+use Rattle.recurse.specs.Follows.{Follows}
 use Rattle.assembly.specs.Answer.{answerOf}
 use Rattle.assembly.specs.Demand.{Demand3}
 use Rattle.memoize.proofs.Caching.{cached-none}

@@ -1,5 +1,3 @@
--- The code's outcomes and answers as those of the search's definitions; demand 3 as score's contract states it.
-pub mod Follows
-pub mod Branching
+-- The code's answer as document 01's; demand 3 as score's contract states it.
 pub mod Answer
 pub mod Demand

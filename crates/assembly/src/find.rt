@@ -8,14 +8,13 @@ ghost use Rattle.matches.specs.Written.{Recorded};
 ghost use Rattle.search.specs.Setting.{memoRoom};
 ghost use Rattle.search.specs.Search.{search};
 ghost use Rattle.search.specs.Answer.{searched, trailAfter};
-ghost use Rattle.assembly.specs.Follows.{settingOf};
+ghost use Rattle.recurse.specs.Follows.{settingOf};
 ghost use Rattle.assembly.specs.Answer.{answerOf};
 use crate::answer::Score;
 use crate::answer::Scored;
-use crate::run;
+use recurse::run;
 use crate::trail as numbers;
-use crate::visit::Setting;
-use matches::clear;
+use recurse::visit::Setting;
 
 // The search of an accepted record, whose matches are in pairs; memo and desk may hold anything. A score's removals go to the trail.
 pub fn find(

@@ -4,16 +4,15 @@ ghost use Prim.Native.Nat.{_≤_};
 ghost use lib.ListN.{length, take, replicate};
 ghost use Rattle.molecule.specs.Check.{check, accepted};
 ghost use Rattle.search.specs.Answer.{scoreAnswer, trailAfter, tableAfter};
-ghost use Rattle.assembly.specs.Follows.{settingOf};
+ghost use Rattle.recurse.specs.Follows.{settingOf};
 ghost use Rattle.assembly.specs.Answer.{answerOf, roomOf};
 ghost use Rattle.assembly.specs.Demand.{Demand3};
 use crate::answer::Score;
 use crate::answer::Scored;
 use crate::find;
-use crate::visit::Setting;
-use matches::build;
-use matches::build::Built;
-use matches::clear;
+use recurse::visit::Setting;
+use tabulate::build;
+use tabulate::build::Built;
 use molecule::Verdict;
 
 // Rows 9 to 12, where none of rows 1 to 8 applies.

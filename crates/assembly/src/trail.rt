@@ -4,17 +4,6 @@ ghost use mathlib.Core.List.{_++_};
 ghost use Prim.Native.Nat.{_-_, _≤_};
 ghost use lib.ListN.{length, take, drop, replicate};
 
-// Every number becomes 0.
-fn zero(numbers: &mut [u32])
-    ensures { λ r. ⌜ now (numbers .exit) ≡ replicate (length (now (numbers .entry))) 0 ⌝ }
-{
-    let mut i = 0;
-    while i < numbers.len() {
-        numbers[i] = 0;
-        i += 1;
-    }
-}
-
 // The first k of the removals go to the front of the trail.
 fn copy(removals: &[u32], k: usize, trail: &mut [u32])
     requires { ⌜ (k ≤ length (now removals)) × (k ≤ length (now trail)) ⌝ }
@@ -32,7 +21,7 @@ fn clear_rest(trail: &mut [u32], k: usize)
     requires { ⌜ (k ≤ 32) × (32 ≤ length (now trail)) ⌝ }
     ensures { λ r. ⌜ now (trail .exit) ≡ take k (now (trail .entry)) ++ (replicate (32 - k) 0 ++ drop 32 (now (trail .entry))) ⌝ }
 {
-    zero(&mut trail[k..32]);
+    clear::zero_numbers(&mut trail[k..32]);
 }
 
 // The first k of the removals, and zeros after them up to 32.

@@ -4,16 +4,16 @@ ghost use Rattle.molecule.specs.Check.{check, number, place};
 ghost use Rattle.molecule.specs.Verdict.{numberOf, placeOf};
 ghost use Rattle.canonize.specs.Answer.{number as labelNumber, value as labelValue, labelAnswer, bufferAfter};
 ghost use lib.ListN.{length, take};
-ghost use Rattle.matches.specs.Counted.{number as countNumber, value as countValue, countAnswer, tableAfter};
+ghost use Rattle.tabulate.specs.Counted.{number as countNumber, value as countValue, countAnswer, tableAfter};
 ghost use Rattle.search.specs.Answer.{scoreAnswer, trailAfter, tableAfter as scoreTableAfter};
 ghost use Rattle.assembly.specs.Answer.{roomOf};
 ghost use Rattle.assembly.specs.Demand.{Demand3};
 ghost use Rattle.capi.specs.Reply.{asked, turned, replyOf, Replies};
 use assembly::answer::Scored;
 use assembly::score;
-use assembly::visit::Setting;
+use recurse::visit::Setting;
 use canonize::Labelled;
-use matches::count::Counted;
+use tabulate::count::Counted;
 use molecule::Fault;
 use molecule::Verdict;
 
@@ -82,7 +82,7 @@ pub extern "C" fn assembly_matches(bytes: &[u8], parts: &mut [u64], pairs: &mut 
     ensures parts { λ r. ⌜ now (parts .exit) ≡ tableAfter (now (bytes .entry)) (now (parts .entry)) ⌝ }
     ensures pairs { λ r. ⌜ now (pairs .exit) ≡ tableAfter (now (bytes .entry)) (now (pairs .entry)) ⌝ }
 {
-    match matches::count::count(bytes, parts, pairs) {
+    match tabulate::count::count(bytes, parts, pairs) {
         Counted::Count(n) => answered(n),
         Counted::Record(fault) => turned_back(fault),
         Counted::Parts(k) => Reply {

@@ -2,7 +2,7 @@
 ghost use mathlib.Core.Path.{_≡_};
 ghost use Prim.Native.Nat.{_≤_};
 ghost use lib.ListN.{length};
-ghost use Rattle.matches.specs.Counted.{countAnswer, answerOf};
+ghost use Rattle.tabulate.specs.Counted.{countAnswer, answerOf};
 ghost use Rattle.lines.specs.Lengths.{LengthsFit};
 use crate::Answer;
 use crate::hex;
@@ -13,8 +13,8 @@ use crate::numbers::Number;
 use crate::output;
 use crate::words;
 use crate::words::Word;
-use matches::count;
-use matches::count::Counted;
+use tabulate::count;
+use tabulate::count::Counted;
 
 // The lengths of parts and pairs in words, or nothing.
 pub enum Lengths {

@@ -1,7 +1,7 @@
 // The command `score HEX BOUNDS MEMO BUDGET [TRAIL PARTS PAIRS MEMO DESK]`: the score of a record, asked with a trail and tables of so many elements.
 ghost use mathlib.Core.Path.{_≡_};
 ghost use Rattle.search.specs.Answer.{scoreAnswer};
-ghost use Rattle.assembly.specs.Follows.{settingOf};
+ghost use Rattle.recurse.specs.Follows.{settingOf};
 ghost use Rattle.assembly.specs.Answer.{answerOf, roomOf};
 ghost use Rattle.lines.specs.Lent.{Held, HeldRoom};
 use crate::Answer;
@@ -16,7 +16,7 @@ use crate::words::Word;
 use assembly::answer::Score;
 use assembly::answer::Scored;
 use assembly::score;
-use assembly::visit::Setting;
+use recurse::visit::Setting;
 
 // How many elements the trail and each table have.
 pub struct Lent {

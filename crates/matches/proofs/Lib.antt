@@ -1,4 +1,4 @@
--- The theory of the match table. Upper crates cite Laws.
+-- The theory of the match table. The search's crates cite Laws.
 pub mod Noting
 pub mod ByLabel
 pub mod Pairing
@@ -8,19 +8,5 @@ pub mod Listed
 pub mod Complete
 pub mod Descending
 pub mod RowLaws
-pub mod Laws
-pub mod Chains
-pub mod Extending
-pub mod Candidates
-pub mod Placing
-pub mod Grouping
-pub mod Writing
 pub mod Recorded
-pub mod Noding
-pub mod Meeting
-pub mod Fitting
-pub mod Stages
-pub mod Stepping
-pub mod Building
-pub mod Answering
-pub mod Counting
+pub mod Laws

@@ -1,9 +1,1 @@
-// The match table: fragments that a molecule has twice (src/matches.rs).
-pub mod build;
-pub mod clear;
-pub mod count;
-pub mod found;
-pub mod groups;
-pub mod nodes;
-pub mod rounds;
-pub mod table;
+// The match table (src/matches.rs) and its words in the pairs table as definitions, and their laws. Nothing here runs: `enumerate` and `tabulate` build the table.

@@ -100,7 +100,7 @@ pub fn masks(
     ensures long { λ r. ⌜ length (now (masks .exit)) ≡ 33 ⌝ }
     ensures told { λ r. ⌜ ((ms : List Pair) → (pieces : List ℕ) → Scanning (now (pairs .entry)) ms pieces (now (own .entry)) all → matches ≡ length ms → Told ms pieces from (now (masks .exit)) (r .largest) (r .first)) ⌝ }
 {
-    matches::clear::zero(masks);
+    clear::zero(masks);
     let mut largest = 0;
     let mut first = matches;
     let mut i = matches;

@@ -5,7 +5,7 @@ use Prim.Native.Nat.{_-_, _≤_}
 use native.Mathlib.Omega.{arith}
 use lib.ListN.{length}
 use Rattle.molecule.specs.Record.{bonds}
-use Rattle.assembly.specs.Follows.{settingOf}
+use Rattle.recurse.specs.Follows.{settingOf}
 use Rattle.assembly.proofs.Scoring.{stored-zeros, cached-zeros, found-short, found-scored, found-eleven, found-twelve}
 use Rattle.assembly.proofs.find.find.Statement.{statement}
 use Rattle.assembly.proofs.find.find.Tie as tie

@@ -2,8 +2,8 @@
 use borrow.Author.Needs.{needs}
 use mathlib.Core.Path.{sym, ap, _∙_}
 use lib.ListN.{length}
-use Rattle.matches.specs.Built.{answerOf}
-use Rattle.assembly.specs.Follows.{settingOf}
+use Rattle.tabulate.specs.Built.{answerOf}
+use Rattle.recurse.specs.Follows.{settingOf}
 use Rattle.assembly.specs.Answer.{roomOf}
 use Rattle.assembly.proofs.Scoring.{entry-accepts, score-table, score-built, built-ready}
 use Rattle.assembly.proofs.score.answer.Statement.{statement}

@@ -2,7 +2,7 @@
 use borrow.Author.Needs.{needs}
 use mathlib.Core.Path.{sym, ap, _∙_}
 use Rattle.molecule.specs.Verdict.{answerOf}
-use Rattle.assembly.specs.Follows.{settingOf}
+use Rattle.recurse.specs.Follows.{settingOf}
 use Rattle.assembly.specs.Answer.{roomOf}
 use Rattle.assembly.proofs.Scoring.{record-back, demand-met}
 use Rattle.assembly.proofs.score.score.Statement.{statement}

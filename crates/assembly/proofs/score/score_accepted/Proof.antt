@@ -1,6 +1,6 @@
 -- `assembly::score::score_accepted` meets its contract. Assumes nothing.
 use borrow.Author.Needs.{needs}
-use Rattle.assembly.specs.Follows.{settingOf}
+use Rattle.recurse.specs.Follows.{settingOf}
 use Rattle.assembly.specs.Answer.{roomOf}
 use Rattle.assembly.proofs.Scoring.{bounds-back, memo-back, trail-back, desk-back, entry-accepts, zeros-after}
 use Rattle.assembly.proofs.score.score_accepted.Statement.{statement}

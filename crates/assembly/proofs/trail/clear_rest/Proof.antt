@@ -16,35 +16,35 @@ ends k t m hk ht e =
     let a : k + (32 - k) ≡ 32 = omega arith in
     rw (e, n, drop-drop, a)
 
-mul-zero : tie.Need-mul-zero
-mul-zero c = search needs
+mul-zero-numbers : tie.Need-mul-zero-numbers
+mul-zero-numbers c = search needs
 
-sub-zero : tie.Need-sub-zero
-sub-zero c = search needs
+sub-zero-numbers : tie.Need-sub-zero-numbers
+sub-zero-numbers c = search needs
 
-part-zero-start : tie.Need-part-zero-start
-part-zero-start c = search needs
+part-zero-numbers-start : tie.Need-part-zero-numbers-start
+part-zero-numbers-start c = search needs
 
-part-zero-end : tie.Need-part-zero-end
-part-zero-end c = search needs
+part-zero-numbers-end : tie.Need-part-zero-numbers-end
+part-zero-numbers-end c = search needs
 
-zero-requires : tie.Need-zero-requires
-zero-requires c κs = search needs
+zero-numbers-requires : tie.Need-zero-numbers-requires
+zero-numbers-requires c κs = search needs
 
 same-length : tie.Need-same-length
 same-length c = search needs
 
 returns : tie.Need-returns
-returns c = ends _ _ _ (c .before .before .before .before .before .pre .0) (c .before .before .before .before .before .pre .1) (c .before .before .zero .ensures)
+returns c = ends _ _ _ (c .before .before .before .before .before .pre .0) (c .before .before .before .before .before .pre .1) (c .before .before .zero-numbers .ensures)
 
 pub clear-rest-spec : {M : Type 1} → statement M
 clear-rest-spec =
     tie.close
     (tie.spec
-    mul-zero
-    sub-zero
-    part-zero-start
-    part-zero-end
-    zero-requires
+    mul-zero-numbers
+    sub-zero-numbers
+    part-zero-numbers-start
+    part-zero-numbers-end
+    zero-numbers-requires
     same-length
     returns)

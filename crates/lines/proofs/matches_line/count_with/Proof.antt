@@ -5,8 +5,8 @@ use mathlib.Core.List.{List}
 use native.Mathlib.Omega.{arith}
 use lib.ListN.{length, take, length-take}
 use Rattle.molecule.specs.Lists.{Bytes}
-use Rattle.matches.specs.Built.{TableAnswer}
-use Rattle.matches.specs.Counted.{countAnswer}
+use Rattle.tabulate.specs.Built.{TableAnswer}
+use Rattle.tabulate.specs.Counted.{countAnswer}
 use borrow.Author.Needs.{needs}
 use Rattle.lines.proofs.matches_line.count_with.Statement.{statement}
 use Rattle.lines.proofs.matches_line.count_with.Tie as tie

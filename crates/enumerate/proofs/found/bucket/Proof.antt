@@ -1,0 +1,17 @@
+-- `enumerate::found::bucket` meets its contract. Assumes nothing.
+use borrow.Author.Needs.{needs}
+use mathlib.Core.Path.{refl}
+use Rattle.enumerate.specs.Found.{bucketOf}
+use Rattle.enumerate.proofs.Chains.{bucket-lt}
+use Rattle.enumerate.proofs.found.bucket.Statement.{statement}
+use Rattle.enumerate.proofs.found.bucket.Tie as tie
+
+rem-result : tie.Need-rem-result
+rem-result c = search needs
+
+returns : tie.Need-returns
+unfolding bucketOf
+returns c = (refl, bucket-lt (c .args .x) (c .args .p) (c .pre))
+
+pub bucket-spec : {M : Type 1} → statement M
+bucket-spec = tie.close (tie.spec rem-result returns)

@@ -1,0 +1,178 @@
+-- `recurse::visit::branch_of` meets its contract. Assumes nothing.
+use mathlib.Core.Path.{_≡_, refl}
+use native.Mathlib.Omega.{arith}
+use mathlib.Core.List.{List}
+use Prim.Native.Nat.{ℕ}
+use lib.ListN.{length, getD}
+use Rattle.molecule.specs.Lists.{Bytes}
+use Rattle.bitset.specs.Bits.{unions}
+use Rattle.matches.specs.Table.{pairs}
+use Rattle.state.specs.Views.{stateOf}
+use Rattle.recurse.specs.Follows.{Searched}
+use Rattle.recurse.specs.Branching.{leastTried}
+use Rattle.state.specs.Scan.{Owners, Scanning, Told}
+use Rattle.recurse.proofs.Branching.{part-zero, scanning-of, pieces-sum, told-few, told-within, told-tries, told-holds}
+use borrow.Author.Needs.{needs}
+use Rattle.recurse.proofs.visit.branch_of.Statement.{statement}
+use Rattle.recurse.proofs.visit.branch_of.Tie as tie
+use Rattle.recurse.proofs.visit.branch_of.Reads as reads
+use Rattle.recurse.proofs.visit.branch_of.Lts as lts
+use Rattle.state.proofs.scan.masks.Reads as masks-reads
+use Rattle.state.proofs.scan.owners.Reads as owners-reads
+use Rattle.state.proofs.scan.whole.Reads as whole-reads
+use Rattle.state.proofs.keep.Reads as keep-reads
+use Rattle.recurse.proofs.visit.least_tried.Reads as least-tried-reads
+
+-- the length of the array of pieces
+long : (c : tie.After-pieces2) → length (c .before .before .before .args .s .pieces) ≡ 32
+long c = search needs
+
+-- what the scan is given, and what it tells
+scanned : (c : tie.After-masks) (bytes : Bytes) (at : List ℕ) → Searched bytes at (c .before .before .before .before .before .before .before .before .before .before .args .touch .now) (c .before .before .before .before .before .before .before .before .before .before .args .pairs .now) (c .before .before .before .before .before .before .before .before .before .before .args .matches)
+    → Scanning (c .before .before .before .before .before .before .before .before .before .before .args .pairs .now) (pairs bytes) (stateOf (c .before .before .before .before .before .before .before .before .before .before .args .s) .pieces) (c .before .before .before .before .before .owners .result) (c .before .before .whole .result)
+scanned c bytes at S =
+    let a = c .before .before .before .before .before .before .before .before .before .before .args in
+    let o : Owners (stateOf (a .s) .pieces) (c .before .before .before .before .before .owners .result) = rw part-zero at (c .before .before .before .before .before .owners .ensures) in
+    let w : c .before .before .whole .result ≡ unions (λ p. p) (stateOf (a .s) .pieces) = rw part-zero at (c .before .before .whole .ensures) in
+    scanning-of bytes at (a .touch .now) (a .pairs .now) (a .matches) S (stateOf (a .s) .pieces) (c .before .before .before .before .before .owners .result) (c .before .before .whole .result) o w
+
+told : (c : tie.After-masks3) (bytes : Bytes) (at : List ℕ) → Searched bytes at (c .before .before .before .before .before .before .before .before .before .before .before .before .args .touch .now) (c .before .before .before .before .before .before .before .before .before .before .before .before .args .pairs .now) (c .before .before .before .before .before .before .before .before .before .before .before .before .args .matches)
+    → Told (pairs bytes) (stateOf (c .before .before .before .before .before .before .before .before .before .before .before .before .args .s) .pieces) (c .before .before .before .before .before .before .before .before .before .before .before .before .args .s .next) (c .before .masks2 .last .1 .1 .1 .1 .1 .0) (c .before .masks2 .result .largest) (c .before .masks2 .result .first)
+told c bytes at S = c .before .masks2 .ensures .1 (pairs bytes) (stateOf (c .before .before .before .before .before .before .before .before .before .before .before .before .args .s) .pieces) (scanned (c .before .before) bytes at S) (S .count)
+
+-- src/visit.rt:171:28
+sub-owners : tie.Need-sub-owners
+sub-owners c = search needs
+
+-- src/visit.rt:171:28
+part-owners-start : tie.Need-part-owners-start
+part-owners-start c = search needs
+
+-- src/visit.rt:171:28
+part-owners-end : tie.Need-part-owners-end
+part-owners-end c = let e : length (c .before .before .before .args .s .pieces) ≡ 32 = search needs in omega (arith, e, c .before .before .before .pre .1 .3 .pieces)
+
+-- src/visit.rt:171:15
+owners-requires : tie.Need-owners-requires
+owners-requires c κs = rw part-zero (c .before .before .before .before .pre .1 .3 .fine .inv .apart)
+
+-- src/visit.rt:172:27
+sub-whole : tie.Need-sub-whole
+sub-whole c = search needs
+
+-- src/visit.rt:172:27
+part-whole-start : tie.Need-part-whole-start
+part-whole-start c = search needs
+
+-- src/visit.rt:172:27
+part-whole-end : tie.Need-part-whole-end
+part-whole-end c = let e : length (c .before .before .before .before .before .before .args .s .pieces) ≡ 32 = search needs in omega (arith, e, c .before .before .before .before .before .before .pre .1 .3 .pieces)
+
+-- src/visit.rt:172:9
+whole-requires : tie.Need-whole-requires
+whole-requires c κs = search needs
+
+-- src/visit.rt:174:66
+slice-aggregate-masks : tie.Need-slice-aggregate-masks
+slice-aggregate-masks c = search needs
+
+-- src/visit.rt:174:9
+masks-requires : tie.Need-masks-requires
+masks-requires c κs = let p = c .before .before .before .before .before .before .before .before .before .before .pre .1 in (refl, omega (arith, p .3 .after, p .2 .count), (pairs (p .0), stateOf (c .before .before .before .before .before .before .before .before .before .before .args .s) .pieces, scanned c (p .0) (p .1) (p .2), p .2 .count))
+
+-- src/visit.rt:176:16
+array-read-kept : tie.Need-array-read-kept
+array-read-kept c = search needs
+
+-- src/visit.rt:177:36
+sub-keep : tie.Need-sub-keep
+sub-keep c = search needs
+
+-- src/visit.rt:177:36
+part-keep-start : tie.Need-part-keep-start
+part-keep-start c = search needs
+
+-- src/visit.rt:177:36
+part-keep-end : tie.Need-part-keep-end
+part-keep-end c = let e : length (c .before .before .before .before .before .before .before .before .before .before .before .before .before .args .s .pieces) ≡ 32 = search needs in omega (arith, e, c .before .before .before .before .before .before .before .before .before .before .before .before .before .pre .1 .3 .pieces)
+
+-- src/visit.rt:177:57
+slice-aggregate-keep : tie.Need-slice-aggregate-keep
+slice-aggregate-keep c = search needs
+
+-- src/visit.rt:177:9
+keep-requires : tie.Need-keep-requires
+keep-requires c κs = let p = c .before .before .before .before .before .before .before .before .before .before .before .before .before .before .before .pre .1 in rw part-zero (pieces-sum (p .0) (p .2 .ok) (stateOf (c .before .before .before .before .before .before .before .before .before .before .before .before .before .before .before .args .s)) (p .3 .fine))
+
+-- src/visit.rt:180:9
+slice-aggregate-least-tried : tie.Need-slice-aggregate-least-tried
+slice-aggregate-least-tried c = search needs
+
+-- src/visit.rt:181:9
+sub-least-tried : tie.Need-sub-least-tried
+sub-least-tried c = search needs
+
+-- src/visit.rt:181:9
+part-least-tried-start : tie.Need-part-least-tried-start
+part-least-tried-start c = search needs
+
+-- src/visit.rt:181:9
+part-least-tried-end : tie.Need-part-least-tried-end
+part-least-tried-end c = omega (arith, long (c .before .before .before .before .before .before .before .before .before .before .before .before .before .before .before .before), c .before .before .before .before .before .before .before .before .before .before .before .before .before .before .before .before .before .before .before .pre .1 .3 .pieces)
+
+-- src/visit.rt:178:9
+least-tried-requires : tie.Need-least-tried-requires
+least-tried-requires c κs =
+    let a = c .before .before .before .before .before .before .before .before .before .before .before .before .before .before .before .before .before .before .before .before .args in
+    let p = c .before .before .before .before .before .before .before .before .before .before .before .before .before .before .before .before .before .before .before .before .pre .1 in
+    let t = told (c .before .before .before .before .before .before .before .before) (p .0) (p .1) (p .2) in
+    let n = told-few (p .0) (p .1) (a .touch .now) (a .pairs .now) (a .matches) (p .2) (a .s) (p .3) _ _ _ t in (
+      omega (arith, n, c .before .before .before .before .before .before .before .before .before .masks2 .ensures .0),
+      rw part-zero (omega (arith, p .3 .both)),
+      c .before .before .before .before .before .before .before .before .before .before .before .before .before .before .before .before .before .before .before .before .pre .0,
+      omega (arith, n),
+      told-within (p .0) (p .1) (a .touch .now) (a .pairs .now) (a .matches) (p .2) (a .s) (p .3) _ _ _ t,
+    )
+
+-- src/visit.rt:158:1
+returns : tie.Need-returns
+returns c =
+    let a = c .before .before .before .before .before .before .before .before .before .before .before .before .before .before .before .before .before .before .before .before .before .args in
+    λ bytes at S E.
+    let t = told (c .before .before .before .before .before .before .before .before .before) bytes at S in
+    let f : c .least-tried .result ≡ leastTried (a .bounds) (λ k. getD (c .before .before .before .before .before .before .before .before .before .before .masks2 .last .1 .1 .1 .1 .1 .0) k 0) (stateOf (a .s) .pieces) (a .s .index) (a .best) (c .before .before .before .before .before .before .before .before .before .before .masks2 .result .largest) = rw part-zero at (c .least-tried .ensures) in
+    record {
+      scanning = scanned (c .before .before .before .before .before .before .before .before .before .before .before) bytes at S;
+      few = c .before .before .before .before .before .keep .ensures .0;
+      held = told-holds bytes at (a .touch .now) (a .pairs .now) (a .matches) S (a .s) E _ _ _ t (c .before .before .before .before .before .keep .result) _ _ _ (part-zero (a .s .count) (a .s .pieces)) (c .before .before .before .before .before .keep .ensures .1);
+      after = t .after;
+      within = t .within;
+      tries = told-tries bytes at (a .touch .now) (a .pairs .now) (a .matches) S (a .s) E _ _ _ t (a .bounds) (a .best) (c .least-tried .result) f;
+    }
+
+pub branch-of-spec : {M : Type 1} → statement M
+branch-of-spec =
+    tie.close
+    (tie.spec
+    sub-owners
+    part-owners-start
+    part-owners-end
+    owners-requires
+    sub-whole
+    part-whole-start
+    part-whole-end
+    whole-requires
+    slice-aggregate-masks
+    masks-requires
+    array-read-kept
+    sub-keep
+    part-keep-start
+    part-keep-end
+    slice-aggregate-keep
+    keep-requires
+    slice-aggregate-least-tried
+    sub-least-tried
+    part-least-tried-start
+    part-least-tried-end
+    least-tried-requires
+    returns)
