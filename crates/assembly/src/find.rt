@@ -12,8 +12,8 @@ ghost use Rattle.recurse.specs.Follows.{settingOf};
 ghost use Rattle.assembly.specs.Answer.{answerOf};
 use crate::answer::Score;
 use crate::answer::Scored;
-use recurse::run;
 use crate::trail as numbers;
+use recurse::run;
 use recurse::visit::Setting;
 
 // The search of an accepted record, whose matches are in pairs; memo and desk may hold anything. A score's removals go to the trail.

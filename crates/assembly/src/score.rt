@@ -10,10 +10,10 @@ ghost use Rattle.assembly.specs.Demand.{Demand3};
 use crate::answer::Score;
 use crate::answer::Scored;
 use crate::find;
+use molecule::Verdict;
 use recurse::visit::Setting;
 use tabulate::build;
 use tabulate::build::Built;
-use molecule::Verdict;
 
 // Rows 9 to 12, where none of rows 1 to 8 applies.
 fn answer(

@@ -11,11 +11,11 @@ ghost use Rattle.assembly.specs.Demand.{Demand3};
 ghost use Rattle.capi.specs.Reply.{asked, turned, replyOf, Replies};
 use assembly::answer::Scored;
 use assembly::score;
-use recurse::visit::Setting;
 use canonize::Labelled;
-use tabulate::count::Counted;
 use molecule::Fault;
 use molecule::Verdict;
+use recurse::visit::Setting;
+use tabulate::count::Counted;
 
 // Document 01's number, 0 where there is no refusal, and its place, or for a label its length, for matches how many there are.
 #[repr(C)]

@@ -8,10 +8,10 @@ ghost use Rattle.molecule.specs.Touch.{bondsAtWords, touchingWords};
 ghost use Rattle.molecule.specs.Check.{check, accepted};
 ghost use Rattle.canonize.specs.Buffers.{Slots};
 ghost use Rattle.tabulate.specs.Sized.{Held, Sizing, Sized};
-use enumerate::found;
-use enumerate::groups;
 use crate::nodes;
 use crate::nodes::Done;
+use enumerate::found;
+use enumerate::groups;
 
 // The n single bonds are the nodes, each alone in its group.
 pub fn start(parts: &mut [u64], p: usize, n: usize)
