@@ -173,18 +173,18 @@ fn branch_of(
     ensures { λ r. ⌜ ((bytes : Bytes) (at : List ℕ) → Searched bytes at (now (touch .entry)) (now (pairs .entry)) matches → Entered bytes s → Branched bytes (now (pairs .entry)) bounds s best r) ⌝ }
 {
     let pieces = s.pieces;
-    let n = s.count;
-    let own = scan::owners(&pieces[0..n]);
-    let all = scan::whole(&pieces[0..n]);
+    let k = s.count;
+    let own = scan::owners(&pieces[0..k]);
+    let all = scan::whole(&pieces[0..k]);
     let mut masks = [0u64; 33];
     let scanned = scan::masks(pairs, s.next, matches, &own, all, &mut masks);
     let mut held = [0u64; 32];
     let kept = masks[2];
-    let count = state::keep(touch, &pieces[0..n], kept, &mut held);
+    let count = state::keep(touch, &pieces[0..k], kept, &mut held);
     let least = least_tried(
         bounds,
         &masks,
-        &pieces[0..n],
+        &pieces[0..k],
         s.index,
         best,
         scanned.largest,
