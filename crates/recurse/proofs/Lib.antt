@@ -1,3 +1,2 @@
 -- The theory of the search's code.
-pub mod Branching
 pub mod Turns

@@ -1,7 +1,7 @@
 -- The search's definition one turn at a time: where entering a state leads, and what is found after each child. Assumes nothing, but where a state is entered that the record is accepted.
 use mathlib.Core.Path.{_≡_, refl, sym, ap, subst, _∙_}
-use mathlib.Core.Logic.{_⊎_, inl, inr, _≢_, ⊎-elim}
-use mathlib.Core.Bool.{Bool, true, false, _&&_, _||_}
+use mathlib.Core.Logic.{_⊎_, inl, inr, _≢_}
+use mathlib.Core.Bool.{true, false, _||_}
 use mathlib.Core.List.{List, [], _∷_, List·Memᴰ as Mem, List·Memᴰ·eq-of-singleton as mem-one}
 use Prim.Native.Nat.{ℕ, zero, suc, _+_, _-_, _≤_, _<_, min}
 use native.Mathlib.Omega.{arith}
@@ -40,9 +40,10 @@ use Rattle.memoize.specs.declared.Asked.{Asked}
 use Rattle.memoize.specs.declared.Asked.the-variants.{Goes, Stopped, Full}
 use Rattle.state.specs.Views.{stateOf}
 use Rattle.memoize.specs.Stored.{Cached, Fragments, Stored, entryWith, Answers}
-use Rattle.recurse.specs.Follows.{settingOf, runOf, Entered, Follows, Visited, Found, Opened, Stopped as Stopped-state, Ended, Gated, Own, betterOf, Lowered}
-use Rattle.recurse.specs.Branching.{triedFrom, Turn, Next, Chooses, Below}
-use Rattle.recurse.proofs.Branching.{pieces-own, next-take, next-end, below-falls}
+use Rattle.branch.specs.Entered.{Entered}
+use Rattle.recurse.specs.Follows.{settingOf, runOf, Follows, Visited, Found, Opened, Stopped as Stopped-state, Ended, Gated, Own, betterOf, Lowered}
+use Rattle.branch.specs.Branching.{triedFrom, Turn, Next, Chooses, Below}
+use Rattle.branch.proofs.Branching.{pieces-own, next-take, next-end, below-falls}
 
 -- ---- Int
 

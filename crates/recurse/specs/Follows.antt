@@ -2,29 +2,25 @@
 use mathlib.Core.Path.{_≡_}
 use mathlib.Core.Logic.{_≢_}
 use mathlib.Core.Bool.{Bool}
-use mathlib.Core.List.{List, [], List·Memᴰ}
-use Prim.Native.Nat.{ℕ, suc, _+_, _-_, _*_, _≤_, _<_, min}
+use mathlib.Core.List.{List, []}
+use Prim.Native.Nat.{ℕ, suc, _-_, _≤_, _<_, min}
 use lib.ListN.{length, take}
 use lib.Dec.{ltb}
 use Rattle.bitset.specs.Bits.{size}
 use Rattle.molecule.specs.Lists.{Bytes, pick}
 use Rattle.molecule.specs.Record.{bonds}
-use Rattle.molecule.specs.Touch.{bondsAtWords, touchingWords}
-use Rattle.molecule.specs.Check.{check, accepted}
-use Rattle.molecule.specs.Connected.{Connected}
 use Rattle.bounds.specs.Numbers.{sumOf}
 use Rattle.matches.specs.Table.{Pair, pairs}
-use Rattle.matches.specs.Written.{Recorded}
 use Rattle.search.specs.Setting as settings
 use Rattle.search.specs.Memo.{Entry}
 use Rattle.search.specs.Search as search
-use Rattle.search.specs.Claims.{Fine}
 use Rattle.state.specs.declared.State.{State}
 use Rattle.recurse.specs.declared.visit.Setting.{Setting}
 use Rattle.recurse.specs.declared.visit.Outcome.{Outcome}
 use Rattle.recurse.specs.declared.visit.Gate.{Gate}
 use Rattle.recurse.specs.declared.visit.Gate.the-variants.{Goes, Stops, Ends}
 use Rattle.state.specs.Views.{stateOf}
+use Rattle.branch.specs.Entered.{Searched, Entered}
 use Rattle.memoize.specs.Stored.{Lent, Stored}
 
 -- the setting that the code's setting is
@@ -34,26 +30,6 @@ settingOf s = record { bounds = s .bounds; memo = s .memo; budget = s .budget }
 -- what is carried from state to state
 abbrev pub runOf : ℕ → ℕ → List Entry → search.Run
 runOf best states memo = record { best = best; states = states; memo = memo }
-
--- an accepted record, its bonds at atoms and touching bonds, and its matches in the words of pairs
-pub record Searched (r : Bytes) (at touch words : List ℕ) (matches : ℕ) : Type 0 where
-  pub ok : check r ≡ accepted
-  pub ends : at ≡ bondsAtWords r
-  pub touches : touch ≡ touchingWords r
-  pub recorded : Recorded words (pairs r)
-  pub count : matches ≡ length (pairs r)
-  pub room : 4 * matches ≤ length words
-  pub few : matches ≤ 4294967295
-
--- a state that the search may enter: sizes add up, and its pieces are fragments of the record
-pub record Entered (r : Bytes) (s : State) : Type 0 where
-  pub fine : Fine r (pairs r) (stateOf s)
-  pub connected : (p : ℕ) → List·Memᴰ p (stateOf s .pieces) → Connected r p
-  pub pieces : s .count ≤ 32
-  pub removals : s .removed ≤ 32
-  -- the memo has room for both
-  pub both : length (stateOf s .pieces) + length (stateOf s .removals) ≤ 32
-  pub after : s .next ≤ length (pairs r)
 
 -- the code's outcome, with the memo table's words then, is the definition's; best has not grown
 abbrev pub Follows : Bytes → ℕ → Outcome → List ℕ → search.Outcome → Type 0

@@ -1,3 +1,2 @@
--- The code's states and outcomes as those of the search's definitions.
+-- The code's outcomes as those of the search's definition.
 pub mod Follows
-pub mod Branching

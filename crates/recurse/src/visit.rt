@@ -1,24 +1,16 @@
 // The search (src/assembly.rs): a state is entered, counted, and left with its answer.
 ghost use mathlib.Core.Path.{_≡_};
-ghost use mathlib.Core.Bool.{_||_};
 ghost use mathlib.Core.List.{List};
-ghost use Prim.Native.Nat.{ℕ, _≤_, _<_};
-ghost use lib.ListN.{length, getD};
-ghost use lib.Dec.{eqb};
-ghost use Rattle.bitset.specs.Bits.{Sub};
-ghost use Rattle.molecule.specs.Lists.{Bytes};
+ghost use Prim.Native.Nat.{_≤_, _<_};
+ghost use lib.ListN.{length};
 ghost use Rattle.canonize.specs.Buffers.{Slots};
-ghost use Rattle.matches.specs.Table.{Pair};
-ghost use Rattle.matches.specs.Laws.{Laws};
 ghost use Rattle.search.specs.Setting.{memoRoom};
 ghost use Rattle.search.specs.Memo.{Entry};
-ghost use Rattle.state.specs.Scan.{Scanning};
 ghost use Rattle.memoize.specs.Stored.{Cached, Lent, Stored};
-ghost use Rattle.recurse.specs.Follows.{Searched, Entered, Ready, Starts, Visited, Found, IntStops, Gated, Own, betterOf, Lowered};
-ghost use Rattle.recurse.specs.Branching.{leastTried, Branched, Next, Chooses, Below};
+ghost use Rattle.branch.specs.Entered.{Entered};
+ghost use Rattle.recurse.specs.Follows.{Ready, Starts, Visited, Found, IntStops, Gated, Own, betterOf, Lowered};
 use memoize::Asked;
 use state::State;
-use state::scan;
 
 // Bounds (0 to 3: 1 is Int, 2 is MatchableEdges, 3 both), memo (0 or 1) and the budget of states.
 pub struct Setting {
@@ -46,32 +38,12 @@ pub enum Gate {
     Ends(u32, u64),
 }
 
-// What the removals of a state are tried from: for each bond the piece that has it, and all bonds in pieces; the pieces held, so many; the least size tried; the number of the first removable match.
-pub struct Branch {
-    pub own: [u64; 64],
-    pub all: u64,
-    pub held: [u64; 32],
-    pub count: usize,
-    pub least: u64,
-    pub first: usize,
-}
-
-// Whether bounds are this one, or both.
-fn has(bounds: u32, bound: u32) -> bool
-    ensures { λ r. ⌜ r ≡ (eqb bounds bound || eqb bounds 3) ⌝ }
-{
-    if bounds == bound {
-        return true;
-    }
-    bounds == 3
-}
-
 // Whether Int stops the state.
 fn int_stops(bounds: u32, s: State, best: u32) -> bool
     requires { ⌜ (s .count ≤ 32) × (s .largest ≤ 64) ⌝ }
     ensures { λ r. ⌜ IntStops bounds s best r ⌝ }
 {
-    if !has(bounds, 1) {
+    if !branch::has(bounds, 1) {
         return false;
     }
     let pieces = s.pieces;
@@ -140,97 +112,6 @@ fn enter(
             return Gate::Goes(e);
         }
     }
-}
-
-// The least size tried: 2 with MatchableEdges off.
-fn least_tried(
-    bounds: u32,
-    masks: &[u64],
-    pieces: &[u64],
-    index: u32,
-    best: u32,
-    largest: u32,
-) -> u64
-    requires { ⌜ (largest < length (now masks)) × (length (now pieces) ≤ 32) × (best ≤ 64) × (largest ≤ 64) × ((k : ℕ) → 2 ≤ k → k ≤ largest → Sub (getD (now masks) k 0) (getD (now masks) 2 0)) ⌝ }
-    ensures { λ r. ⌜ r ≡ leastTried bounds (λ k. getD (now (masks .entry)) k 0) (now (pieces .entry)) index best largest ⌝ }
-{
-    if !has(bounds, 2) {
-        return 2;
-    }
-    bounds::least_size(masks, pieces, index, best, largest) as u64
-}
-
-// Lets go, and finds which sizes are tried and from where on.
-fn branch_of(
-    touch: &[u64; 64],
-    pairs: &[u64],
-    matches: usize,
-    bounds: u32,
-    s: State,
-    best: u32,
-) -> Branch
-    requires { ⌜ (best ≤ 64) × ((bytes : Bytes) × (at : List ℕ) × Searched bytes at (now touch) (now pairs) matches × Entered bytes s) ⌝ }
-    ensures { λ r. ⌜ ((bytes : Bytes) (at : List ℕ) → Searched bytes at (now (touch .entry)) (now (pairs .entry)) matches → Entered bytes s → Branched bytes (now (pairs .entry)) bounds s best r) ⌝ }
-{
-    let pieces = s.pieces;
-    let k = s.count;
-    let own = scan::owners(&pieces[0..k]);
-    let all = scan::whole(&pieces[0..k]);
-    let mut masks = [0u64; 33];
-    let scanned = scan::masks(pairs, s.next, matches, &own, all, &mut masks);
-    let mut held = [0u64; 32];
-    let kept = masks[2];
-    let count = state::keep(touch, &pieces[0..k], kept, &mut held);
-    let least = least_tried(
-        bounds,
-        &masks,
-        &pieces[0..k],
-        s.index,
-        best,
-        scanned.largest,
-    );
-    Branch {
-        own: own,
-        all: all,
-        held: held,
-        count: count,
-        least: least,
-        first: scanned.first,
-    }
-}
-
-// The first match from a number on that is removable and of the least size or more; the number of the matches where there is none. Along the table sizes never grow.
-fn next(pairs: &[u64], from: usize, matches: usize, own: &[u64; 64], all: u64, least: u64) -> usize
-    requires { ⌜ (from ≤ matches) × ((ms : List Pair) × (pieces : List ℕ) × Scanning (now pairs) ms pieces (now own) all × (matches ≡ length ms)) ⌝ }
-    ensures { λ r. ⌜ ((bytes : Bytes) (ms : List Pair) (pieces : List ℕ) → Laws bytes ms → Scanning (now (pairs .entry)) ms pieces (now (own .entry)) all → matches ≡ length ms → Next bytes ms pieces least from r) ⌝ }
-{
-    let mut i = from;
-    while i < matches {
-        if pairs[4 * i + 3] < least {
-            return matches;
-        }
-        if scan::is_removable(pairs, i, own, all) {
-            return i;
-        }
-        i += 1;
-    }
-    i
-}
-
-// The state after match m is removed.
-fn below(touch: &[u64; 64], pairs: &[u64], s: State, held: &[u64], m: usize) -> State
-    requires { ⌜ ((bytes : Bytes) × (at : List ℕ) × (matches : ℕ) × Searched bytes at (now touch) (now pairs) matches × Entered bytes s × Chooses bytes s (now held) m) ⌝ }
-    ensures { λ r. ⌜ ((bytes : Bytes) (at : List ℕ) (matches : ℕ) → Searched bytes at (now (touch .entry)) (now (pairs .entry)) matches → Entered bytes s → Chooses bytes s (now (held .entry)) m → Below bytes s m r) ⌝ }
-{
-    state::child(
-        touch,
-        s,
-        held,
-        m,
-        pairs[4 * m],
-        pairs[4 * m + 2],
-        pairs[4 * m + 3] as u32,
-    )
 }
 
 // The outcome on a row.
@@ -340,14 +221,14 @@ fn visit(
             return own_answer(s, best, states + 1, entries);
         }
         Gate::Goes(e) => {
-            let b = branch_of(touch, pairs, matches, setting.bounds, s, best);
+            let b = branch::branch_of(touch, pairs, matches, setting.bounds, s, best);
             let owners = b.own;
             let held = b.held;
             let k = b.count;
             let mut found = own_answer(s, best, states + 1, e);
-            let mut m = next(pairs, b.first, matches, &owners, b.all, b.least);
+            let mut m = branch::next(pairs, b.first, matches, &owners, b.all, b.least);
             while m < matches {
-                let c = below(touch, pairs, s, &held[0..k], m);
+                let c = branch::below(touch, pairs, s, &held[0..k], m);
                 let g = visit(
                     bytes,
                     at,
@@ -371,7 +252,7 @@ fn visit(
                     return g;
                 }
                 found = better(found, g);
-                m = next(pairs, m + 1, matches, &owners, b.all, b.least);
+                m = branch::next(pairs, m + 1, matches, &owners, b.all, b.least);
             }
             return lowered(found);
         }

@@ -11,21 +11,21 @@ use Rattle.matches.proofs.Laws.{table-laws}
 use Rattle.search.specs.Setting.{memoRoom}
 use Rattle.state.specs.Views.{stateOf}
 use Rattle.recurse.specs.Follows.{settingOf}
-use Rattle.recurse.specs.Branching.{Chooses, Below}
-use Rattle.recurse.proofs.Branching.{part-zero, below-falls}
+use Rattle.branch.specs.Branching.{Chooses, Below}
+use Rattle.branch.proofs.Branching.{part-zero, below-falls}
 use Rattle.recurse.proofs.Turns.{Kept, kept-start, kept-done, kept-halts, kept-next, visited-ends, visited-stops, visited-halts, visited-answers, gate-ends, gate-stops, gate-goes, own-stored}
 use borrow.Fn.Kinds.{In}
 use borrow.Fn.PlainCycle.{Measures, is, falls, and}
 use Rattle.recurse.proofs.visit.visit.Reads as visit
 use Rattle.recurse.proofs.visit.visit.Kinds as visit-kinds
 use Rattle.recurse.proofs.visit.+visit.Lts-visit as visit-lts
-use Rattle.recurse.proofs.visit.below.Reads as below-reads
+use Rattle.branch.proofs.below.Reads as below-reads
 use Rattle.recurse.proofs.visit.better.Reads as better-reads
-use Rattle.recurse.proofs.visit.branch_of.Reads as branch-of-reads
+use Rattle.branch.proofs.branch_of.Reads as branch-of-reads
 use Rattle.recurse.proofs.visit.enter.Reads as enter-reads
 use Rattle.recurse.proofs.visit.halted.Reads as halted-reads
 use Rattle.recurse.proofs.visit.lowered.Reads as lowered-reads
-use Rattle.recurse.proofs.visit.next.Reads as next-reads
+use Rattle.branch.proofs.next.Reads as next-reads
 use Rattle.recurse.proofs.visit.own_answer.Reads as own-answer-reads
 use Rattle.recurse.proofs.visit.+visit.{statement}
 use Rattle.recurse.proofs.visit.+visit.Tie.{close}

@@ -5,7 +5,7 @@ use lib.ListN.{length}
 use Rattle.matches.specs.Table.{pairs}
 use Rattle.state.specs.Views.{stateOf}
 use Rattle.recurse.specs.Follows.{settingOf}
-use Rattle.recurse.proofs.Branching.{part-zero, largest-few}
+use Rattle.branch.proofs.Branching.{part-zero, largest-few}
 use Rattle.recurse.proofs.Turns.{ends-spent, stops-int, goes-plain, stops-memo, ends-full, goes-memo, fragments-of}
 use borrow.Author.Needs.{needs}
 use Rattle.recurse.proofs.visit.enter.Statement.{statement}

@@ -2,13 +2,12 @@
 use borrow.Author.Needs.{needs}
 use borrow.Author.Tests.{not-true, not-false}
 use mathlib.Core.Path.{_≡_, sym, _∙_}
-use Prim.Native.Nat.{_≤_}
 use native.Mathlib.Omega.{arith}
 use lib.ListN.{length}
 use Rattle.state.specs.Views.{stateOf}
 use Rattle.bounds.specs.Numbers.{ceilLog2}
 use Rattle.bounds.specs.Bounds.{intBound}
-use Rattle.recurse.proofs.Branching.{part-zero}
+use Rattle.branch.proofs.Branching.{part-zero}
 use Rattle.recurse.proofs.Turns.{stops-off, stops-on}
 use Rattle.recurse.proofs.visit.int_stops.Statement.{statement}
 use Rattle.recurse.proofs.visit.int_stops.Tie as tie

@@ -1,5 +1,4 @@
 -- `recurse::visit::search` meets its contract. Assumes nothing.
-use mathlib.Core.Path.{_≡_}
 use mathlib.Core.List.{[]}
 use Prim.Native.Nat.{_≤_}
 use native.Mathlib.Omega.{arith}

@@ -1,14 +1,14 @@
--- `recurse::visit::below` meets its contract. Assumes nothing.
+-- `branch::below` meets its contract. Assumes nothing.
 use borrow.Author.Needs.{needs}
 use mathlib.Core.Path.{_≡_}
 use Prim.Native.Nat.{_≤_}
 use native.Mathlib.Omega.{arith}
 use lib.ListN.{length}
-use Rattle.recurse.proofs.Branching.{word-size, below-asks, below-is}
-use Rattle.recurse.proofs.visit.below.Statement.{statement}
-use Rattle.recurse.proofs.visit.below.Tie as tie
-use Rattle.recurse.proofs.visit.below.Reads as reads
-use Rattle.recurse.proofs.visit.below.Lts as lts
+use Rattle.branch.proofs.Branching.{word-size, below-asks, below-is}
+use Rattle.branch.proofs.below.Statement.{statement}
+use Rattle.branch.proofs.below.Tie as tie
+use Rattle.branch.proofs.below.Reads as reads
+use Rattle.branch.proofs.below.Lts as lts
 use Rattle.state.proofs.child.Reads as child-reads
 
 mul-child : tie.Need-mul-child

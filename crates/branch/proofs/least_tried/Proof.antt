@@ -1,12 +1,12 @@
--- `recurse::visit::least_tried` meets its contract. Assumes nothing.
+-- `branch::least_tried` meets its contract. Assumes nothing.
 use borrow.Author.Needs.{needs}
 use borrow.Author.Tests.{not-true, not-false}
 use mathlib.Core.Path.{sym, _∙_}
-use Rattle.recurse.proofs.Branching.{least-on, least-off}
-use Rattle.recurse.proofs.visit.least_tried.Statement.{statement}
-use Rattle.recurse.proofs.visit.least_tried.Tie as tie
-use Rattle.recurse.proofs.visit.least_tried.Reads as reads
-use Rattle.recurse.proofs.visit.least_tried.Lts as lts
+use Rattle.branch.proofs.Branching.{least-on, least-off}
+use Rattle.branch.proofs.least_tried.Statement.{statement}
+use Rattle.branch.proofs.least_tried.Tie as tie
+use Rattle.branch.proofs.least_tried.Reads as reads
+use Rattle.branch.proofs.least_tried.Lts as lts
 use Rattle.bounds.proofs.least_size.Reads as least-size-reads
 
 has-requires : tie.Need-has-requires

@@ -1,4 +1,4 @@
--- `recurse::visit::branch_of` meets its contract. Assumes nothing.
+-- `branch::branch_of` meets its contract. Assumes nothing.
 use mathlib.Core.Path.{_≡_, refl}
 use native.Mathlib.Omega.{arith}
 use mathlib.Core.List.{List}
@@ -8,20 +8,20 @@ use Rattle.molecule.specs.Lists.{Bytes}
 use Rattle.bitset.specs.Bits.{unions}
 use Rattle.matches.specs.Table.{pairs}
 use Rattle.state.specs.Views.{stateOf}
-use Rattle.recurse.specs.Follows.{Searched}
-use Rattle.recurse.specs.Branching.{leastTried}
+use Rattle.branch.specs.Entered.{Searched}
+use Rattle.branch.specs.Branching.{leastTried}
 use Rattle.state.specs.Scan.{Owners, Scanning, Told}
-use Rattle.recurse.proofs.Branching.{part-zero, scanning-of, pieces-sum, told-few, told-within, told-tries, told-holds}
+use Rattle.branch.proofs.Branching.{part-zero, scanning-of, pieces-sum, told-few, told-within, told-tries, told-holds}
 use borrow.Author.Needs.{needs}
-use Rattle.recurse.proofs.visit.branch_of.Statement.{statement}
-use Rattle.recurse.proofs.visit.branch_of.Tie as tie
-use Rattle.recurse.proofs.visit.branch_of.Reads as reads
-use Rattle.recurse.proofs.visit.branch_of.Lts as lts
+use Rattle.branch.proofs.branch_of.Statement.{statement}
+use Rattle.branch.proofs.branch_of.Tie as tie
+use Rattle.branch.proofs.branch_of.Reads as reads
+use Rattle.branch.proofs.branch_of.Lts as lts
 use Rattle.state.proofs.scan.masks.Reads as masks-reads
 use Rattle.state.proofs.scan.owners.Reads as owners-reads
 use Rattle.state.proofs.scan.whole.Reads as whole-reads
 use Rattle.state.proofs.keep.Reads as keep-reads
-use Rattle.recurse.proofs.visit.least_tried.Reads as least-tried-reads
+use Rattle.branch.proofs.least_tried.Reads as least-tried-reads
 
 -- the length of the array of pieces
 long : (c : tie.After-pieces2) → length (c .before .before .before .args .s .pieces) ≡ 32

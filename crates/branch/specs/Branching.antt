@@ -14,10 +14,10 @@ use Rattle.search.specs.State as search
 use Rattle.search.specs.Search.{tried}
 use Rattle.search.specs.Claims.{heldOf}
 use Rattle.state.specs.declared.State.{State}
-use Rattle.recurse.specs.declared.visit.Branch.{Branch}
+use Rattle.branch.specs.declared.Branch.{Branch}
 use Rattle.state.specs.Views.{stateOf}
 use Rattle.state.specs.Scan.{Scanning, goes}
-use Rattle.recurse.specs.Follows.{Entered}
+use Rattle.branch.specs.Entered.{Entered}
 
 -- the least size tried: 2 with MatchableEdges off
 unfoldable pub leastTried : ℕ → (ℕ → ℕ) → List ℕ → ℕ → ℕ → ℕ → ℕ

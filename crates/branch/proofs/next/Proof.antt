@@ -1,20 +1,20 @@
--- `recurse::visit::next` meets its contract: what is tried from number i on is what is tried from the start on. Assumes nothing.
+-- `branch::next` meets its contract: what is tried from number i on is what is tried from the start on. Assumes nothing.
 use borrow.Author.Needs.{needs, scaled-fits}
 use mathlib.Core.Path.{_≡_, refl, sym, _∙_}
 use mathlib.Core.List.{List}
 use Prim.Native.Nat.{ℕ, _+_, _-_, _*_, _≤_, _<_}
 use native.Mathlib.Omega.{arith}
-use lib.ListN.{length, getD}
+use lib.ListN.{length}
 use Rattle.molecule.specs.Lists.{Bytes}
 use Rattle.matches.specs.Table.{Pair}
 use Rattle.matches.specs.Laws.{Laws}
 use Rattle.state.specs.Scan.{Scanning}
-use Rattle.recurse.specs.Branching.{triedFrom}
-use Rattle.recurse.proofs.Branching.{next-skip, next-small, next-end, end-turn}
-use Rattle.recurse.proofs.visit.next.Statement.{statement}
-use Rattle.recurse.proofs.visit.next.Tie as tie
-use Rattle.recurse.proofs.visit.next.Reads as reads
-use Rattle.recurse.proofs.visit.next.Lts as lts
+use Rattle.branch.specs.Branching.{triedFrom}
+use Rattle.branch.proofs.Branching.{next-skip, next-small, next-end, end-turn}
+use Rattle.branch.proofs.next.Statement.{statement}
+use Rattle.branch.proofs.next.Tie as tie
+use Rattle.branch.proofs.next.Reads as reads
+use Rattle.branch.proofs.next.Lts as lts
 use Rattle.state.proofs.scan.is_removable.Reads as is-removable-reads
 
 abbrev Inv-loop : tie.InvT-loop

@@ -1,9 +1,9 @@
 -- What a state's removals are tried from, the next to try, and the state after it. Of an accepted record, with its own matches where a state is entered.
 use mathlib.Core.Path.{_≡_, refl, sym, ap, subst, _∙_}
-use mathlib.Core.Logic.{_⊎_, inl, inr, _≢_, ⊎-elim}
-use mathlib.Core.Bool.{Bool, true, false, not, _&&_, _||_}
+use mathlib.Core.Logic.{_⊎_, inl, inr}
+use mathlib.Core.Bool.{Bool, true, false, not, _||_}
 use mathlib.Core.List.{List, [], _∷_, _++_, flatMap, List·Memᴰ as Mem, List·Memᴰ·head as m-head, List·Memᴰ·tail as m-tail, List·Memᴰ·cases-cons as mem-cons, List·Memᴰ·not-nil as not-nil, List·Memᴰ·append-cases as mem-cases, List·Memᴰ·eq-of-singleton as mem-one}
-use Prim.Native.Nat.{ℕ, zero, suc, _+_, _-_, _*_, _^_, _≤_, _<_, max}
+use Prim.Native.Nat.{ℕ, zero, suc, _+_, _-_, _*_, _^_, _≤_, _<_}
 use native.Mathlib.Omega.{arith}
 use native.Mathlib.Numerals.{add-one}
 use lib.Bits.{bitAnd, bitOr}
@@ -26,13 +26,12 @@ use Rattle.bounds.specs.Bounds.{leftOut, leastSize}
 use Rattle.bounds.specs.Removals.{Within}
 use Rattle.bounds.proofs.Numbers.{mem-sum}
 use Rattle.matches.specs.Table.{Pair, pair, sizeOf, pairs}
-use Rattle.matches.specs.Written.{Recorded}
 use Rattle.matches.specs.Laws.{Twins, Laws}
 use Rattle.matches.proofs.Laws.{table-laws}
 use Rattle.search.specs.Setting.{Setting, hasMatchableEdges}
 use Rattle.search.specs.State.{State, struck, bigComponents, removable, maskOf, keep, remove, child}
 use Rattle.search.specs.Search.{tried}
-use Rattle.search.specs.Claims.{Removable, Inv, Fine, heldOf}
+use Rattle.search.specs.Claims.{Removable, Fine, heldOf}
 use Rattle.search.proofs.Lists.{inside-true, refines-within, flat-mem}
 use Rattle.search.proofs.Parts.{few, big-is}
 use Rattle.search.proofs.Refine.{diff-within, and-within, first-struck, removable-mem, keep-refines, letting-go, mask-within}
@@ -41,8 +40,8 @@ use Rattle.state.specs.declared.State as code
 use Rattle.state.specs.Views.{stateOf}
 use Rattle.state.specs.Pieces.{bondsOf, bondsLeft, Big, Owned, Held, Chosen}
 use Rattle.state.specs.Scan.{Owners, Scanning, Told, goes}
-use Rattle.recurse.specs.Follows.{Searched, Entered}
-use Rattle.recurse.specs.Branching.{leastTried, triedFrom, Turn, Next, Chooses, Below}
+use Rattle.branch.specs.Entered.{Searched, Entered}
+use Rattle.branch.specs.Branching.{leastTried, triedFrom, Turn, Chooses, Below}
 use Rattle.state.proofs.Scanning.{removable-in, removable-out, removable-end}
 
 -- ---- lists
