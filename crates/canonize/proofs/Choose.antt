@@ -1,25 +1,24 @@
 -- From numbered bonds and a test on the numbers (a word's bits) to a piece of the molecule.
-use Rattle.bitset.proofs.Bools.{two}
-use borrow.Author.Tests.{eqb-false, eqb-true, le-ltb, lt-ltb}
-use mathlib.Core.Path.{_≡_, refl, sym, ap, ap₂, subst, _∙_}
-use mathlib.Core.Logic.{_⊎_, inl, inr, _↔_}
-use mathlib.Core.Bool.{Bool, true, false, not}
-use mathlib.Core.List.{List, [], _∷_, _++_, map, List·Memᴰ as Mem, List·Memᴰ·head as m-head, List·Memᴰ·tail as m-tail, Memᴰ·append-left as mem-left, List·Permᴰ as Perm, List·Permᴰ·trans as p-trans, Permᴰ·symm as perm-sym}
-use Prim.Native.Nat.{ℕ, zero, suc, _+_, _*_, _≤_, _<_}
+use borrow.Author.Tests.{eqb-true, le-ltb, lt-ltb}
+use mathlib.Core.Path.{_≡_, refl, sym, ap}
+use mathlib.Core.Logic.{_↔_}
+use mathlib.Core.Bool.{Bool, true, not}
+use mathlib.Core.List.{List, [], _∷_, _++_, map, List·Memᴰ as Mem, List·Memᴰ·head as m-head, List·Permᴰ as Perm, List·Permᴰ·trans as p-trans}
+use Prim.Native.Nat.{ℕ, zero, suc, _+_, _≤_}
 use native.Mathlib.Omega.{arith}
 use lib.ListN.{length}
 use lib.Dec.{eqb, ltb}
 use Rattle.canonize.specs.Fragment.{Bond, Frag, arcs, degree, labelOf, more, touchedBy, turn}
 use Rattle.molecule.specs.Lists.{filter}
 use Rattle.canonize.proofs.Sorting.{not-both}
-use Rattle.canonize.proofs.Lists.{perm-eq, perm-length, perm-mem, Distinct, perm-map, map-append, keep-mem, keep-intro, keep-split, keep-same, keep-distinct, eqb-yes, eqb-no}
+use Rattle.canonize.proofs.Lists.{perm-eq, mem-some, perm-map, map-append, keep-mem, keep-intro, keep-split, keep-distinct, eqb-yes, eqb-no}
 use Rattle.canonize.proofs.Lists.{perm-exchange}
 use mathlib.Core.List.{append-nil}
 use Rattle.canonize.proofs.Peeling.{Joined}
-use Rattle.canonize.proofs.Rounds.{Treelike, arcs-mem, arcs-perm, arcs-append, arcs-turn}
+use Rattle.canonize.proofs.Rounds.{Treelike, arcs-some, arcs-turn}
 use Rattle.canonize.proofs.Held.{Clean}
 use Rattle.canonize.proofs.Parts.{Connected}
-use Rattle.canonize.proofs.Facts.{part, Piece, pieces-iff}
+use Rattle.canonize.proofs.Facts.{Piece, pieces-iff}
 
 -- the bonds that a test on their numbers picks, and the others
 pub chosen-by : (bond : ℕ → Bond) (numbers : List ℕ) (p : ℕ → Bool) → Perm (map bond numbers) (map bond (filter p numbers) ++ map bond (filter (λ n. not (p n)) numbers))
@@ -32,10 +31,7 @@ chosen-by bond numbers p =
 -- an atom that a bond touches: one of the atoms, and an arc leads to it
 pub touched-has : (bs : List Bond) (ns : List ℕ) {n : ℕ} → Mem n ns → (x : Bond) → Mem x (arcs bs) → x .v ≡ n → Mem n (touchedBy bs ns)
 touched-has bs ns {n} i x m e = keep-intro (λ (n : ℕ). not (eqb (degree (arcs bs) n) 0)) ns i
-    (ap not (eqb-no {a = degree (arcs bs) n} {b = 0} (λ z. absurd (omega (arith, pos (filter (λ (y : Bond). eqb (y .v) n) (arcs bs)) (keep-intro (λ (y : Bond). eqb (y .v) n) (arcs bs) m (eqb-yes e)))))))
-  where
-    pos : {x : Bond} (l : List Bond) → Mem x l → 1 ≤ length l
-    pos (z ∷ l) i = omega arith
+    (ap not (eqb-no {a = degree (arcs bs) n} {b = 0} (λ z. absurd (omega (arith, mem-some (filter (λ (y : Bond). eqb (y .v) n) (arcs bs)) (keep-intro (λ (y : Bond). eqb (y .v) n) (arcs bs) m (eqb-yes e)))))))
 
 pub touched-in : (bs : List Bond) (ns : List ℕ) {n : ℕ} → Mem n (touchedBy bs ns) → Mem n ns × ((x : Bond) × Mem x (arcs bs) × (x .v ≡ n))
 touched-in bs ns {n} m =
@@ -59,12 +55,9 @@ piece-of a c s rest p k = record {
   chosen = p;
   connected = k;
   distinct = keep-distinct (λ (n : ℕ). not (eqb (degree (arcs s) n) 0)) (a .atoms) (c .tree .distinct);
-  ends = λ x m. let e = c .tree .ends x (in-all m) in (touched-has s (a .atoms) (e .0) (turn x) (arcs-turn s m) refl, touched-has s (a .atoms) (e .1) x m refl);
+  ends = λ x m. let e = c .tree .ends x (arcs-some s rest p m) in (touched-has s (a .atoms) (e .0) (turn x) (arcs-turn s m) refl, touched-has s (a .atoms) (e .1) x m refl);
   touched = λ n m. touched-in s (a .atoms) m .1;
 }
-  where
-    in-all : {x : Bond} → Mem x (arcs s) → Mem x (arcs (a .bonds))
-    in-all m = perm-mem (perm-sym (arcs-perm p)) (rw (arcs-append s rest) (mem-left (arcs rest) m))
 
 -- in a tree more than two atoms are left while more than one bond is
 pub more-bonds : (ns : List ℕ) (bs : List Bond) → Treelike ns bs → more ns ≡ ltb 1 (length bs)

@@ -1,21 +1,18 @@
 -- What upper crates use: connected sets of bonds of a tree molecule have equal labels exactly when an isomorphism joins them; sizes and
 -- lengths; the label sees neither order nor direction; an isomorphism carries every part along; how a tree is built.
-use Rattle.bitset.proofs.Bools.{two}
-use mathlib.Core.Path.{_≡_, refl, sym, ap, ap₂, subst, _∙_}
+use mathlib.Core.Path.{_≡_, refl, sym, ap, _∙_}
 use mathlib.Core.Logic.{_⊎_, inl, inr, _↔_}
-use mathlib.Core.Bool.{Bool, true, false, not}
-use mathlib.Core.List.{List, [], _∷_, _++_, map, List·Memᴰ as Mem, List·Memᴰ·head as m-head, List·Memᴰ·tail as m-tail, Memᴰ·cast as mem-cast, Memᴰ·append-left as mem-left, Memᴰ·map as mem-map, Memᴰ·of-map as mem-of-map, List·Permᴰ as Perm, List·Permᴰ·nil as p-nil, List·Permᴰ·cons as p-cons, List·Permᴰ·swap as p-swap, List·Permᴰ·trans as p-trans, Permᴰ·refl as perm-refl, Permᴰ·symm as perm-sym}
-use Prim.Native.Nat.{ℕ, zero, suc, _+_, _*_, _≤_, _<_}
+use mathlib.Core.List.{List, [], _∷_, _++_, map, List·Memᴰ as Mem, List·Memᴰ·head as m-head, List·Memᴰ·tail as m-tail, Memᴰ·cast as mem-cast, Memᴰ·map as mem-map, Memᴰ·of-map as mem-of-map, List·Permᴰ as Perm, List·Permᴰ·trans as p-trans, Permᴰ·refl as perm-refl, Permᴰ·symm as perm-sym}
+use Prim.Native.Nat.{ℕ, _+_, _*_}
 use native.Mathlib.Omega.{arith}
-use lib.ListN.{length, length-append, length-map}
-use Rattle.canonize.specs.Fragment.{Bond, Frag, arcs, labelOf, turn}
-use Rattle.canonize.proofs.Sorting.{not-both}
-use Rattle.canonize.proofs.RoseTrees.{Kids, nil, kid, Tree, bondsIn, bonds, code, code-length, twoCode, twoCode-length, Code}
-use Rattle.canonize.proofs.Pairing.{Item, allItems, items-length}
+use lib.ListN.{length, length-map}
+use Rattle.canonize.specs.Fragment.{Bond, Frag, arcs, labelOf}
+use Rattle.canonize.proofs.RoseTrees.{Tree, bondsIn, bonds, code-length, twoCode-length}
+use Rattle.canonize.proofs.Pairing.{allItems, items-length}
 use Rattle.canonize.proofs.Lists.{perm-eq, perm-length, perm-mem, Distinct, distinct-perm, map-distinct}
 use Rattle.canonize.proofs.Peeling.{arcs-length, onBond, treeLabel, Joined, Formed, label-of-joined}
-use Rattle.canonize.proofs.Rounds.{Treelike, toBond, arcs-mem, arcs-perm, arcs-append, arcs-turn}
-use Rattle.canonize.proofs.Held.{Clean, clean-formed, Holds, Result, one-centre, two-centres, attach, result, label-iff, joined-of-label}
+use Rattle.canonize.proofs.Rounds.{toBond, arcs-some}
+use Rattle.canonize.proofs.Held.{arcs-map, Clean, Holds, Result, one-centre, two-centres, attach, result, label-iff, joined-of-label}
 use Rattle.canonize.proofs.Parts.{Connected, connected-tree}
 use Rattle.canonize.proofs.OnStrings.{label-document}
 
@@ -56,10 +53,6 @@ joined-arc-onto a b j y m = mem-of-map (onBond (j .f)) (arcs (a .bonds)) (perm-m
 
 pub joined-injective : (a b : Frag) (j : Joined a b) → Distinct (b .atoms) → {m n : ℕ} → Mem m (a .atoms) → Mem n (a .atoms) → j .f m ≡ j .f n → m ≡ n
 joined-injective a b j d p q e = map-distinct (j .f) (distinct-perm (perm-sym (j .onto)) d) p q e
-
-arcs-map : (f : ℕ → ℕ) (bs : List Bond) → map (onBond f) (arcs bs) ≡ arcs (map (onBond f) bs)
-arcs-map f [] = refl
-arcs-map f (b ∷ bs) = ap (λ (l : List Bond). onBond f b ∷ turn (onBond f b) ∷ l) (arcs-map f bs)
 
 pub distinct-image : {A B : Type 0} (f : A → B) (ms : List A) → ((m n : A) → Mem m ms → Mem n ms → f m ≡ f n → m ≡ n) → Distinct ms → Distinct (map f ms)
 distinct-image f [] i d = tt
@@ -112,12 +105,9 @@ pub record Piece (a : Frag) (ms : List ℕ) (s : List Bond) : Type 0 where
 pub piece-clean : (a : Frag) → Clean a → (ms : List ℕ) (s : List Bond) → Piece a ms s → Clean (part a ms s)
 piece-clean a c ms s p = record {
   tree = connected-tree (a .atoms) (a .bonds) (c .tree) s (p .rest) (p .chosen) (p .connected) ms (p .distinct) (p .ends) (p .touched);
-  elems = λ n m. let (x, i, e) = p .touched n m in c .elems n (mem-cast (sym e) (c .tree .ends x (in-all i) .1));
-  codes = λ x m. c .codes x (in-all m);
+  elems = λ n m. let (x, i, e) = p .touched n m in c .elems n (mem-cast (sym e) (c .tree .ends x (arcs-some s (p .rest) (p .chosen) i) .1));
+  codes = λ x m. c .codes x (arcs-some s (p .rest) (p .chosen) m);
 }
-  where
-    in-all : {x : Bond} → Mem x (arcs s) → Mem x (arcs (a .bonds))
-    in-all m = perm-mem (perm-sym (arcs-perm (p .chosen))) (rw (arcs-append s (p .rest)) (mem-left (arcs (p .rest)) m))
 
 -- THE THEOREM: two connected sets of bonds of tree molecules (one molecule or two) have equal labels exactly when an isomorphism joins them
 pub pieces-iff : (a b : Frag) → Clean a → Clean b → (ms ns : List ℕ) (s t : List Bond) → Piece a ms s → Piece b ns t → (labelOf (part a ms s) ≡ labelOf (part b ns t)) ↔ Joined (part a ms s) (part b ns t)

@@ -4,19 +4,19 @@ use borrow.Author.Tests.{eqb-false, eqb-true}
 use mathlib.Core.Path.{_≡_, refl, sym, ap, ap₂, subst, _∙_}
 use mathlib.Core.Logic.{_⊎_, inl, inr, _↔_}
 use mathlib.Core.Bool.{Bool, true, false, not}
-use mathlib.Core.List.{List, [], _∷_, _++_, map, append-assoc, append-nil, map-map, cons≢nil, nil≢cons, List·Memᴰ as Mem, List·Memᴰ·head as m-head, List·Memᴰ·tail as m-tail, Memᴰ·cast as mem-cast, Memᴰ·append-left as mem-left, Memᴰ·append-right as mem-right, List·Memᴰ·append-cases as mem-cases, Memᴰ·map as mem-map, Memᴰ·of-map as mem-of-map, List·Permᴰ as Perm, List·Permᴰ·nil as p-nil, List·Permᴰ·cons as p-cons, List·Permᴰ·swap as p-swap, List·Permᴰ·trans as p-trans, Permᴰ·refl as perm-refl, Permᴰ·symm as perm-sym, Permᴰ·append-left as perm-left, Permᴰ·append-right as perm-right, Permᴰ·middle as perm-middle}
-use Prim.Native.Nat.{ℕ, zero, suc, _+_, _*_, _≤_, _<_}
+use mathlib.Core.List.{List, [], _∷_, _++_, map, append-assoc, append-nil, List·Memᴰ as Mem, List·Memᴰ·head as m-head, List·Memᴰ·tail as m-tail, Memᴰ·append-left as mem-left, List·Memᴰ·append-cases as mem-cases, Memᴰ·map as mem-map, Memᴰ·of-map as mem-of-map, List·Permᴰ as Perm, List·Permᴰ·nil as p-nil, List·Permᴰ·cons as p-cons, List·Permᴰ·swap as p-swap, List·Permᴰ·trans as p-trans, Permᴰ·symm as perm-sym, Permᴰ·append-left as perm-left, Permᴰ·append-right as perm-right}
+use Prim.Native.Nat.{ℕ, zero, suc, _+_, _≤_}
 use native.Mathlib.Omega.{arith}
-use lib.ListN.{length, length-append, length-map}
+use lib.ListN.{length}
 use lib.Dec.{eqb}
 use Rattle.canonize.specs.Fragment.{Bond, Frag, arcs, endAtom, more, toEnds, turn}
-use Rattle.molecule.specs.Lists.{filter, pick}
+use Rattle.molecule.specs.Lists.{filter}
 use Rattle.canonize.proofs.Sorting.{not-both}
-use Rattle.canonize.proofs.RoseTrees.{Kids, nil, kid, Tree, bonds, strings, nodeCode, code, code-length, twoCode, twoCode-length, Code, GoodKids, Good, Like, pair, here, _≈_, shape-of-code, shape-of-two, one-not-two}
-use Rattle.canonize.proofs.Pairing.{Item, item, items, onItem, atoms, allItems, allAtoms, items-atoms, Iso, iso-of-shape, iso-atoms}
-use Rattle.canonize.proofs.Lists.{perm-append, perm-exchange, perm-eq, perm-length, perm-mem, Distinct, distinct-perm, perm-map, map-append, keep-mem, keep-split, map-agree, eqb-yes, eqb-no}
+use Rattle.canonize.proofs.RoseTrees.{Kids, nil, kid, Tree, bonds, code, twoCode, Code, GoodKids, Good, pair, here, _≈_, shape-of-code, shape-of-two, one-not-two}
+use Rattle.canonize.proofs.Pairing.{Item, items, onItem, atoms, allItems, allAtoms, items-atoms, Iso, iso-of-shape, iso-atoms}
+use Rattle.canonize.proofs.Lists.{perm-append, perm-exchange, perm-eq, perm-mem, Distinct, distinct-perm, perm-map, map-append, keep-mem, keep-split, eqb-yes, eqb-no}
 use Rattle.canonize.proofs.Sums.{flat, flat-perm}
-use Rattle.canonize.proofs.Peeling.{onBond, both, TreePeel, gather, takeOff, treeRound, treePeel, settle-more, settle-stop, treeAt, treeTwo, treeLast, treeFinish, treeStart, treeLabel, Joined, Formed, label-of-joined, arcs-length}
+use Rattle.canonize.proofs.Peeling.{onBond, both, TreePeel, gather, treeRound, treePeel, settle-more, settle-stop, treeAt, treeTwo, treeLast, treeStart, treeLabel, Joined, Formed, label-of-joined}
 use Rattle.canonize.proofs.Rounds.{Treelike, stay, going, below, toItem, toBond, arcs-perm, arcs-append, arcs-cut, arcs-mem, ends-apart, ends-going, round-shorter, round-tree, round-items}
 
 -- the element codes are those of the atoms, and no code is 0 or 255
@@ -227,7 +227,7 @@ result a c =
     result-at a (treePeel (a .elem) (length (a .atoms)) (treeStart a)) c h (treePeel (a .elem) (length (a .atoms)) (treeStart a) .present) refl m
 
 -- arcs of a mapped list
-arcs-map : (f : ℕ → ℕ) (bs : List Bond) → map (onBond f) (arcs bs) ≡ arcs (map (onBond f) bs)
+pub arcs-map : (f : ℕ → ℕ) (bs : List Bond) → map (onBond f) (arcs bs) ≡ arcs (map (onBond f) bs)
 arcs-map f [] = refl
 arcs-map f (b ∷ bs) = ap (λ (l : List Bond). onBond f b ∷ turn (onBond f b) ∷ l) (arcs-map f bs)
 

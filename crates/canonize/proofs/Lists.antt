@@ -1,17 +1,20 @@
 -- Permutations, membership and lists without repetition.
 use Rattle.bitset.proofs.Bools.{two}
-use borrow.Author.Tests.{eqb-false, eqb-true}
 use mathlib.Core.Path.{_≡_, refl, sym, ap, ap₂, subst, _∙_}
 use mathlib.Core.Logic.{_⊎_, inl, inr}
-use mathlib.Core.List.{List, [], _∷_, _++_, map, append-assoc, List·Memᴰ as Mem, List·Memᴰ·head as m-head, List·Memᴰ·tail as m-tail, Memᴰ·cast as mem-cast, Memᴰ·append-left as mem-left, Memᴰ·append-right as mem-right, List·Memᴰ·append-cases as mem-cases, Memᴰ·map as mem-map, Memᴰ·of-map as mem-of-map, List·Permᴰ as Perm, List·Permᴰ·nil as p-nil, List·Permᴰ·cons as p-cons, List·Permᴰ·swap as p-swap, List·Permᴰ·trans as p-trans, Permᴰ·refl as perm-refl, Permᴰ·symm as perm-sym, Permᴰ·append-left as perm-left, Permᴰ·append-right as perm-right, Permᴰ·middle as perm-middle}
-use Prim.Native.Nat.{ℕ, zero, suc, _+_, _*_, _≤_, _<_}
+use mathlib.Core.List.{List, [], _∷_, _++_, map, List·Memᴰ as Mem, List·Memᴰ·head as m-head, List·Memᴰ·tail as m-tail, Memᴰ·cast as mem-cast, Memᴰ·append-left as mem-left, Memᴰ·append-right as mem-right, Memᴰ·map as mem-map, List·Permᴰ as Perm, List·Permᴰ·nil as p-nil, List·Permᴰ·cons as p-cons, List·Permᴰ·swap as p-swap, List·Permᴰ·trans as p-trans, Permᴰ·refl as perm-refl, Permᴰ·symm as perm-sym, Permᴰ·append-left as perm-left, Permᴰ·append-right as perm-right, Permᴰ·middle as perm-middle}
+use Prim.Native.Nat.{ℕ, suc, _+_, _≤_}
 use native.Mathlib.Omega.{arith}
 use native.Mathlib.Decide.{ℕ-discrete}
-use lib.ListN.{length, length-append}
+use lib.ListN.{length}
 use lib.Dec.{T, eqb, eqb→eq, eqb-refl}
 use mathlib.Core.Bool.{Bool, true, false, not}
-use Rattle.molecule.specs.Lists.{filter, pick}
-use Rattle.canonize.proofs.Sorting.{not-both, T-true, T-false}
+use Rattle.molecule.specs.Lists.{filter}
+use Rattle.canonize.proofs.Sorting.{T-true, T-false}
+
+-- a list with a member is not empty
+pub mem-some : {A : Type 0} {x : A} (l : List A) → Mem x l → 1 ≤ length l
+mem-some (z ∷ l) i = omega arith
 
 module _ {A : Type 0} where
   pub perm-append : {k l m n : List A} → Perm k l → Perm m n → Perm (k ++ m) (l ++ n)

@@ -1,20 +1,20 @@
 -- A connected set of bonds of a tree is a tree.
 use Rattle.bitset.proofs.Bools.{two}
-use borrow.Author.Tests.{eqb-false, eqb-true}
-use mathlib.Core.Path.{_≡_, refl, sym, ap, ap₂, subst, _∙_}
-use mathlib.Core.Logic.{_⊎_, inl, inr, _↔_}
+use borrow.Author.Tests.{eqb-true}
+use mathlib.Core.Path.{_≡_, refl, sym, ap, _∙_}
+use mathlib.Core.Logic.{_⊎_, inl, inr}
 use mathlib.Core.Bool.{Bool, true, false, not}
-use mathlib.Core.List.{List, [], _∷_, _++_, map, append-assoc, append-nil, List·Memᴰ as Mem, List·Memᴰ·head as m-head, List·Memᴰ·tail as m-tail, Memᴰ·cast as mem-cast, Memᴰ·append-left as mem-left, Memᴰ·append-right as mem-right, List·Memᴰ·append-cases as mem-cases, List·Permᴰ as Perm, List·Permᴰ·nil as p-nil, List·Permᴰ·cons as p-cons, List·Permᴰ·swap as p-swap, List·Permᴰ·trans as p-trans, Permᴰ·refl as perm-refl, Permᴰ·symm as perm-sym}
-use Prim.Native.Nat.{ℕ, zero, suc, _+_, _*_, _≤_, _<_}
+use mathlib.Core.List.{List, [], _∷_, _++_, List·Memᴰ as Mem, List·Memᴰ·head as m-head, List·Memᴰ·tail as m-tail, Memᴰ·cast as mem-cast, List·Permᴰ as Perm, Permᴰ·symm as perm-sym}
+use Prim.Native.Nat.{ℕ, zero, suc, _+_, _≤_}
 use native.Mathlib.Omega.{arith}
 use lib.ListN.{length, length-append}
 use lib.Dec.{eqb}
 use Rattle.canonize.specs.Fragment.{Bond, arcs, turn}
 use Rattle.molecule.specs.Lists.{filter, pick}
 use Rattle.canonize.proofs.Sorting.{not-both, Out, first, later, out-perm}
-use Rattle.canonize.proofs.Lists.{perm-eq, perm-length, perm-mem, Distinct, distinct-perm, memb, keep-perm, keep-mem, keep-intro, keep-same, keep-split, keep-distinct, eqb-yes, eqb-no}
+use Rattle.canonize.proofs.Lists.{perm-length, perm-mem, Distinct, memb, keep-perm, keep-mem, keep-same, keep-split, keep-distinct, eqb-yes, eqb-no}
 use Rattle.canonize.proofs.Peeling.{both}
-use Rattle.canonize.proofs.Rounds.{Treelike, arcs-turn, arcs-mem, arcs-perm, arcs-append}
+use Rattle.canonize.proofs.Rounds.{Treelike, arcs-turn, arcs-mem, arcs-some}
 
 abbrev either : Bool → Bool → Bool
 either a b = pick a true b
@@ -210,15 +210,12 @@ connected-tree ns bs t s rest p c ms d ends meet =
     -- no fewer, since the molecule has no ring
     let A : ℕ → Bool = λ n. is (memb n ms) in
     let high : length (filter (inside A) bs) + length ns ≤ length bs + length (filter A ns) =
-    inside-bound ns bs (t .distinct) (t .ends) (t .linked) A (c .some .v) (t .ends (c .some) (in-all (arcs-mem s (c .in-it))) .1) (is-yes (memb (c .some .v) ms) first-atom) in
+    inside-bound ns bs (t .distinct) (t .ends) (t .linked) A (c .some .v) (t .ends (c .some) (arcs-some s rest p (arcs-mem s (c .in-it))) .1) (is-yes (memb (c .some .v) ms) first-atom) in
     let within : length s ≤ length (filter (inside A) bs) =
     omega (arith, perm-length (keep-perm (inside A) p), keep-parts (inside A) s rest, keep-all (inside A) s (λ b i. let e = ends b (arcs-mem s i) in both-true (A (b .u)) (A (b .v)) (is-yes (memb (b .u) ms) (e .0)) (is-yes (memb (b .v) ms) (e .1)))) in
     let few : length (filter A ns) ≤ length ms = distinct-le (filter A ns) ms (keep-distinct A ns (t .distinct)) (λ y m. is-true (memb y ms) (keep-mem A ns m .1)) in
     record { distinct = d; ends = ends; count = omega (arith, t .count); linked = linked }
   where
-    in-all : {x : Bond} → Mem x (arcs s) → Mem x (arcs bs)
-    in-all m = perm-mem (perm-sym (arcs-perm p)) (rw (arcs-append s rest) (mem-left (arcs rest) m))
-
     keep-parts : (q : Bond → Bool) (k l : List Bond) → length (filter q (k ++ l)) ≡ length (filter q k) + length (filter q l)
     keep-parts q [] l = omega arith
     keep-parts q (x ∷ k) l = go (two (q x)) (keep-parts q k l)

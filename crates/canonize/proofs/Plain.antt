@@ -2,24 +2,23 @@
 -- exactly when their images are. On clean fragments it is the same as Joined.
 use Rattle.bitset.proofs.Bools.{two}
 use borrow.Author.Tests.{eqb-true}
-use mathlib.Core.Path.{_≡_, refl, sym, ap, ap₂, subst, _∙_}
+use mathlib.Core.Path.{_≡_, refl, sym, ap, ap₂, _∙_}
 use mathlib.Core.Logic.{_⊎_, inl, inr, _↔_}
 use mathlib.Core.Bool.{Bool, true, false, not}
-use mathlib.Core.List.{List, [], _∷_, _++_, map, List·Memᴰ as Mem, List·Memᴰ·head as m-head, List·Memᴰ·tail as m-tail, Memᴰ·cast as mem-cast, Memᴰ·map as mem-map, Memᴰ·of-map as mem-of-map, List·Permᴰ as Perm, Permᴰ·symm as perm-sym}
-use Prim.Native.Nat.{ℕ, zero, suc, _+_, _*_, _≤_, _<_}
+use mathlib.Core.List.{List, [], _∷_, map, List·Memᴰ as Mem, List·Memᴰ·head as m-head, List·Memᴰ·tail as m-tail, Memᴰ·cast as mem-cast, Memᴰ·map as mem-map, Memᴰ·of-map as mem-of-map, Permᴰ·symm as perm-sym}
+use Prim.Native.Nat.{ℕ, _+_, _≤_}
 use native.Mathlib.Omega.{arith}
 use lib.ListN.{length}
 use lib.Dec.{eqb}
 use Rattle.canonize.specs.Fragment.{Bond, Frag, arcs, labelOf, touchedBy, turn}
-use Rattle.molecule.specs.Lists.{filter, pick, numbersFrom}
-use Rattle.canonize.proofs.Sorting.{not-both}
-use Rattle.canonize.proofs.Lists.{perm-mem, Distinct, keep-mem, keep-intro, keep-distinct, eqb-yes}
-use Rattle.canonize.proofs.Peeling.{onBond, both, treeLabel, Joined}
+use Rattle.molecule.specs.Lists.{filter, numbersFrom}
+use Rattle.canonize.proofs.Lists.{perm-mem, mem-some, Distinct, keep-mem, keep-intro, keep-distinct, eqb-yes}
+use Rattle.canonize.proofs.Peeling.{onBond, both, Joined}
 use Rattle.canonize.proofs.Rounds.{Treelike, arcs-turn}
 use Rattle.canonize.proofs.Held.{Clean, label-iff}
 use Rattle.canonize.proofs.Parts.{Connected, inside, inside-bound, distinct-le, arc-bond}
 use Rattle.canonize.proofs.Facts.{distinct-image, joined-arc, joined-arc-onto, joined-injective, piece-clean}
-use Rattle.canonize.proofs.Transport.{distinct-same}
+use Rattle.canonize.proofs.Transport.{distinct-same, either, right, or}
 use Rattle.canonize.proofs.Choose.{piece-of, chosen-by}
 use Rattle.canonize.proofs.OfRecords.{Accepted, accepted-clean, molecule, fragment}
 use Rattle.canonize.proofs.OnStrings.{label-document}
@@ -46,20 +45,6 @@ no-loop ns b bs d s m e =
     let one : 1 ≤ length (filter (inside A) (b ∷ bs)) = rw h (omega arith) in
     omega (arith, s A (b .u) m (eqb-yes {a = b .u} refl))
 
-abbrev either : Bool → Bool → Bool
-either a b = pick a true b
-
-right : (a : Bool) {d : Bool} → d ≡ true → either a d ≡ true
-right true q = refl
-right false q = q
-
-or : (a d : Bool) → either a d ≡ true → (a ≡ true) ⊎ (d ≡ true)
-or true d q = inl refl
-or false d q = inr q
-
-pos : {x : Bond} (l : List Bond) → Mem x l → 1 ≤ length l
-pos (z ∷ l) i = omega arith
-
 no-parallel : (ns : List ℕ) (b : Bond) (bs : List Bond) → Distinct ns → Sparse ns (b ∷ bs) → Mem (b .u) ns → Mem b bs ⊎ Mem (turn b) bs → ⊥
 no-parallel ns b bs d s m w =
     let A : ℕ → Bool = λ n. either (eqb n (b .u)) (eqb n (b .v)) in
@@ -77,8 +62,8 @@ no-parallel ns b bs d s m w =
     in-two z (inr q) = m-tail (m-head (eqb-true z (b .v) q))
 
     some : (A : ℕ → Bool) → inside A b ≡ true → inside A (turn b) ≡ true → Mem b bs ⊎ Mem (turn b) bs → 1 ≤ length (filter (inside A) bs)
-    some A h i (inl k) = pos (filter (inside A) bs) (keep-intro (inside A) bs k h)
-    some A h i (inr k) = pos (filter (inside A) bs) (keep-intro (inside A) bs k i)
+    some A h i (inl k) = mem-some (filter (inside A) bs) (keep-intro (inside A) bs k h)
+    some A h i (inr k) = mem-some (filter (inside A) bs) (keep-intro (inside A) bs k i)
 
 -- the arcs of a tree are different
 arcs-distinct : (ns : List ℕ) (bs : List Bond) → Distinct ns → Sparse ns bs → ((x : Bond) → Mem x (arcs bs) → Mem (x .u) ns) → Distinct (arcs bs)

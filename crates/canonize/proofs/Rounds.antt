@@ -1,23 +1,23 @@
 -- Peeling a tree: every round leaves a tree, and what hangs under the atoms holds each bond taken off exactly once.
 use Rattle.bitset.proofs.Bools.{two}
 use borrow.Author.Tests.{eqb-false, eqb-true}
-use mathlib.Core.Path.{_≡_, refl, sym, ap, ap₂, subst, _∙_}
-use mathlib.Core.Logic.{_⊎_, inl, inr, _↔_}
+use mathlib.Core.Path.{_≡_, refl, sym, ap, ap₂, _∙_}
+use mathlib.Core.Logic.{_⊎_, inl, inr}
 use mathlib.Core.Bool.{Bool, true, false, not, _&&_}
-use mathlib.Core.List.{List, [], _∷_, _++_, map, append-assoc, append-nil, map-map, head-eq-of-cons-eq, cons≢nil, nil≢cons, List·Memᴰ as Mem, List·Memᴰ·head as m-head, List·Memᴰ·tail as m-tail, Memᴰ·cast as mem-cast, Memᴰ·append-left as mem-left, Memᴰ·append-right as mem-right, List·Memᴰ·append-cases as mem-cases, Memᴰ·map as mem-map, Memᴰ·of-map as mem-of-map, List·Permᴰ as Perm, List·Permᴰ·nil as p-nil, List·Permᴰ·cons as p-cons, List·Permᴰ·swap as p-swap, List·Permᴰ·trans as p-trans, Permᴰ·refl as perm-refl, Permᴰ·symm as perm-sym, Permᴰ·append-left as perm-left, Permᴰ·append-right as perm-right, Permᴰ·middle as perm-middle}
-use Prim.Native.Nat.{ℕ, zero, suc, _+_, _*_, _≤_, _<_}
+use mathlib.Core.List.{List, [], _∷_, _++_, map, append-assoc, append-nil, map-map, List·Memᴰ as Mem, List·Memᴰ·head as m-head, List·Memᴰ·tail as m-tail, Memᴰ·append-left as mem-left, List·Permᴰ as Perm, List·Permᴰ·nil as p-nil, List·Permᴰ·cons as p-cons, List·Permᴰ·swap as p-swap, List·Permᴰ·trans as p-trans, Permᴰ·refl as perm-refl, Permᴰ·symm as perm-sym, Permᴰ·append-left as perm-left, Permᴰ·append-right as perm-right}
+use Prim.Native.Nat.{ℕ, _+_, _*_, _≤_, _<_}
 use native.Mathlib.Omega.{arith}
 use native.Mathlib.Decide.{ℕ-discrete}
 use lib.ListN.{length, length-append, length-map}
 use lib.Dec.{eqb}
-use Rattle.canonize.specs.Fragment.{Bond, Frag, arcs, degree, endAtom, more, toEnds, turn}
+use Rattle.canonize.specs.Fragment.{Bond, arcs, degree, endAtom, more, toEnds, turn}
 use Rattle.molecule.specs.Lists.{filter, pick}
-use Rattle.canonize.proofs.Sorting.{not-both, perm-cons, perm-nil, Out, first, later}
-use Rattle.canonize.proofs.RoseTrees.{Kids, nil, kid, Tree, strings, nodeCode, code, twoCode, perm-two, Code, GoodKids, Good, _≈_}
-use Rattle.canonize.proofs.Pairing.{Item, item, items, atoms, allItems, allAtoms, items-atoms}
-use Rattle.canonize.proofs.Lists.{perm-append, perm-exchange, perm-eq, perm-length, perm-mem, Distinct, distinct-perm, perm-map, map-append, memb, map-distinct, keep-yes, keep-no, keep-perm, keep-mem, keep-intro, keep-map, keep-same, keep-split, keep-distinct, map-agree, eqb-yes, eqb-no, bool-iff}
+use Rattle.canonize.proofs.Sorting.{not-both}
+use Rattle.canonize.proofs.RoseTrees.{Kids, code}
+use Rattle.canonize.proofs.Pairing.{Item, item, items}
+use Rattle.canonize.proofs.Lists.{perm-append, perm-exchange, perm-eq, perm-length, perm-mem, mem-some, Distinct, perm-map, keep-perm, keep-mem, keep-intro, keep-map, keep-same, keep-split, keep-distinct, map-agree, eqb-yes, eqb-no}
 use Rattle.canonize.proofs.Sums.{flat, flat-append, flat-perm, flat-agree, flat-split, flat-length, flat-map, map-flat, flat-flat, flat-keep, group, keep-both}
-use Rattle.canonize.proofs.Peeling.{onBond, both, TreePeel, gather, takeOff, treeRound, treePeel, settle-more, settle-stop, treeAt, treeTwo, treeLast, treeFinish, treeStart, treeLabel, arcs-length, arcs-keep}
+use Rattle.canonize.proofs.Peeling.{both, gather, arcs-length, arcs-keep}
 
 -- A tree: the atoms are different, the bonds' ends are among them, there is one atom more than bonds,
 -- and whatever set of atoms is neither none nor all of them is left by a bond.
@@ -46,6 +46,10 @@ arcs-perm (p-trans d g) = p-trans (arcs-perm d) (arcs-perm g)
 pub arcs-append : (k l : List Bond) → arcs (k ++ l) ≡ arcs k ++ arcs l
 arcs-append [] l = refl
 arcs-append (b ∷ k) l = ap (λ (z : List Bond). b ∷ turn b ∷ z) (arcs-append k l)
+
+-- the arcs of some of the bonds are among those of all
+pub arcs-some : {bs : List Bond} (s rest : List Bond) → Perm bs (s ++ rest) → {x : Bond} → Mem x (arcs s) → Mem x (arcs bs)
+arcs-some s rest p m = perm-mem (perm-sym (arcs-perm p)) (rw (arcs-append s rest) (mem-left (arcs rest) m))
 
 abbrev leads : ℕ → Bond → Bool
 leads n x = eqb (x .v) n
@@ -178,10 +182,7 @@ module _ (ns : List ℕ) (bs : List Bond) (t : Treelike ns bs) (m : more ns ≡ 
   degree-pos n i =
       let (k, j, f, g) = third-of ns n n m (t .distinct) in
       let (y, o, h, l) = t .linked (λ z. eqb z n) n k i j (eqb-yes {a = n} refl) (eqb-no f) in
-      pos (filter (leads n) (arcs bs)) (keep-intro (leads n) (arcs bs) (arcs-turn bs o) h)
-    where
-      pos : {x : Bond} (l : List Bond) → Mem x l → 1 ≤ length l
-      pos (z ∷ l) p = omega arith
+      mem-some (filter (leads n) (arcs bs)) (keep-intro (leads n) (arcs bs) (arcs-turn bs o) h)
 
   -- there is an end atom
   pub some-end : 1 ≤ length (filter (endAtom (arcs bs)) ns)

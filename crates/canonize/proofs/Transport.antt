@@ -1,25 +1,22 @@
 -- two pieces with equal labels: what touches in the one has its like, with the label of the pair, in the other.
 use Rattle.bitset.proofs.Bools.{two}
-use borrow.Author.Tests.{eqb-false, eqb-true}
-use mathlib.Core.Path.{_≡_, refl, sym, ap, ap₂, subst, _∙_}
-use mathlib.Core.Logic.{_⊎_, inl, inr, _↔_}
-use mathlib.Core.Bool.{Bool, true, false, not}
-use mathlib.Core.List.{List, [], _∷_, _++_, map, List·Memᴰ as Mem, List·Memᴰ·head as m-head, List·Memᴰ·tail as m-tail, Memᴰ·cast as mem-cast, Memᴰ·append-left as mem-left, List·Permᴰ as Perm, List·Permᴰ·nil as p-nil, List·Permᴰ·cons as p-cons, List·Permᴰ·swap as p-swap, List·Permᴰ·trans as p-trans, Permᴰ·refl as perm-refl, Permᴰ·symm as perm-sym, Permᴰ·append-right as perm-right}
-use Prim.Native.Nat.{ℕ, zero, suc, _+_, _*_, _≤_, _<_}
+use borrow.Author.Tests.{eqb-true}
+use mathlib.Core.Path.{_≡_, refl, sym, ap, ap₂, _∙_}
+use mathlib.Core.Logic.{_⊎_, inl, inr}
+use mathlib.Core.Bool.{Bool, true, false}
+use mathlib.Core.List.{List, [], _∷_, List·Memᴰ as Mem, List·Memᴰ·head as m-head, List·Memᴰ·tail as m-tail, Memᴰ·cast as mem-cast, List·Permᴰ as Perm, List·Permᴰ·nil as p-nil, List·Permᴰ·cons as p-cons, List·Permᴰ·trans as p-trans, Permᴰ·symm as perm-sym}
+use Prim.Native.Nat.{ℕ, _≤_}
 use native.Mathlib.Omega.{arith}
-use lib.ListN.{length, length-append, length-map}
+use lib.ListN.{length}
 use lib.Dec.{eqb}
 use Rattle.canonize.specs.Fragment.{Bond, Frag, arcs, labelOf, touchedBy, turn}
 use Rattle.molecule.specs.Lists.{filter, pick}
-use Rattle.canonize.proofs.Sorting.{not-both, Out, first, later, out-perm}
-use Rattle.canonize.proofs.Lists.{perm-eq, perm-length, perm-mem, Distinct, distinct-perm, map-distinct, keep-perm, keep-mem, keep-distinct, eqb-yes, eqb-no}
-use Rattle.canonize.proofs.Peeling.{arcs-length, onBond, both, treeLabel, Joined, Formed}
-use Rattle.canonize.proofs.Rounds.{Treelike, arcs-mem, arcs-perm, arcs-turn}
-use Rattle.canonize.proofs.Held.{Clean, clean-formed, joined-of-label}
-use Rattle.canonize.proofs.Parts.{Connected, Walk, stop, step, Meets, inside, inside-bound, mem-out, distinct-le, arc-bond}
-use Rattle.canonize.proofs.Facts.{part, pairOf, pair-label, distinct-image, label-order, joined-arc, joined-injective, Piece, piece-clean}
-use Rattle.canonize.proofs.Choose.{piece-of}
-use Rattle.canonize.proofs.OnStrings.{label-document}
+use Rattle.canonize.proofs.Sorting.{not-both, out-perm}
+use Rattle.canonize.proofs.Lists.{perm-length, perm-mem, Distinct, distinct-perm, keep-perm, keep-mem, keep-distinct, eqb-yes}
+use Rattle.canonize.proofs.Peeling.{both, treeLabel}
+use Rattle.canonize.proofs.Rounds.{Treelike, arcs-mem, arcs-turn}
+use Rattle.canonize.proofs.Parts.{Connected, Walk, stop, step, Meets, inside, inside-bound, mem-out, distinct-le}
+use Rattle.canonize.proofs.Facts.{part}
 
 -- two lists without repetition and with the same members
 pub distinct-same : {A : Type 0} (k l : List A) → Distinct k → Distinct l → ((x : A) → Mem x k → Mem x l) → ((x : A) → Mem x l → Mem x k) → Perm k l
@@ -39,8 +36,16 @@ distinct-same {A} (x ∷ k) l d e f g =
 abbrev pub Along : Bond → Bond → Type 0
 Along x b = (x ≡ b) ⊎ (x ≡ turn b)
 
-abbrev either : Bool → Bool → Bool
+abbrev pub either : Bool → Bool → Bool
 either a b = pick a true b
+
+pub right : (a : Bool) {d : Bool} → d ≡ true → either a d ≡ true
+right true q = refl
+right false q = q
+
+pub or : (a d : Bool) → either a d ≡ true → (a ≡ true) ⊎ (d ≡ true)
+or true d q = inl refl
+or false d q = inr q
 
 inside-along : (A : ℕ → Bool) (x b : Bond) → Along x b → A (x .u) ≡ true → A (x .v) ≡ true → inside A b ≡ true
 inside-along A x b (inl e) p q = ap₂ both (sym (ap (λ (z : Bond). A (z .u)) e) ∙ p) (sym (ap (λ (z : Bond). A (z .v)) e) ∙ q)
@@ -97,14 +102,6 @@ module _ (ns : List ℕ) (bs : List Bond) (t : Treelike ns bs) (b c : Bond) (res
           let few : length (filter A ns) ≤ 2 = distinct-le (filter A ns) (x .u ∷ x .v ∷ []) (keep-distinct A ns (t .distinct)) (λ z k. in-two z (or (eqb z (x .u)) (eqb z (x .v)) (keep-mem A ns k .1))) in
           omega (arith, inside-bound ns bs (t .distinct) (t .ends) (t .linked) A (x .v) (t .ends x x-in .1) at-v, count-two A (inside-along A x b i at-u at-v) (inside-along A y c j (sym (ap A e) ∙ at-v) (sym (ap A h) ∙ at-u)), t .count)
         where
-          right : (a : Bool) {d : Bool} → d ≡ true → either a d ≡ true
-          right true q = refl
-          right false q = q
-
-          or : (a d : Bool) → either a d ≡ true → (a ≡ true) ⊎ (d ≡ true)
-          or true d q = inl refl
-          or false d q = inr q
-
           in-two : (z : ℕ) → (eqb z (x .u) ≡ true) ⊎ (eqb z (x .v) ≡ true) → Mem z (x .u ∷ x .v ∷ [])
           in-two z (inl q) = m-head (eqb-true z (x .u) q)
           in-two z (inr q) = m-tail (m-head (eqb-true z (x .v) q))

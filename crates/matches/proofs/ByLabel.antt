@@ -2,7 +2,7 @@
 use mathlib.Core.Path.{_≡_, refl, sym, ap, _∙_, subst}
 use mathlib.Core.Logic.{_⊎_, inl, inr, _≢_, ⊎-elim}
 use mathlib.Core.Bool.{true, false, true≢false}
-use mathlib.Core.List.{List, [], _∷_, _++_, List·Memᴰ as Mem, List·Memᴰ·head as m-head, List·Memᴰ·tail as m-tail, List·Memᴰ·cases-cons as mem-cons, List·Memᴰ·not-nil as not-nil, List·Memᴰ·eq-of-singleton as mem-one, List·Memᴰ·append-cases as mem-cases, Memᴰ·append-left as mem-left, Memᴰ·append-right as mem-right, Memᴰ·cast as mem-cast}
+use mathlib.Core.List.{List, [], _∷_, _++_, List·Memᴰ as Mem, List·Memᴰ·head as m-head, List·Memᴰ·tail as m-tail, List·Memᴰ·cases-cons as mem-cons, List·Memᴰ·not-nil as not-nil, List·Memᴰ·eq-of-singleton as mem-one, List·Memᴰ·append-cases as mem-cases, Memᴰ·append-left as mem-left, Memᴰ·append-right as mem-right}
 use Prim.Native.Nat.{ℕ}
 use Rattle.bitset.proofs.Bools.{two}
 use Rattle.molecule.specs.Lists.{Bytes, fold}

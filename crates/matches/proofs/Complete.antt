@@ -5,7 +5,7 @@ use mathlib.Core.List.{List, [], _∷_, List·Memᴰ as Mem, List·Memᴰ·not-n
 use Prim.Native.Nat.{ℕ, zero, suc, _+_, _^_, _≤_, _<_}
 use native.Mathlib.Omega.{arith}
 use native.Mathlib.Decide.{decLe, ℕ-discrete}
-use lib.ListN.{length, drop}
+use lib.ListN.{length}
 use lib.Bits.{bitOr, and-self}
 use Rattle.bitset.specs.Bits.{bit, Sub, Disjoint, diff, size}
 use Rattle.bitset.proofs.Laws.{bit-le, bit-one, bit-diff, size-minus, size-empty, member-lt, one-sub, size-same, size-one, size-le}

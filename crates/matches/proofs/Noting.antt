@@ -1,16 +1,16 @@
 -- Lists of sets: noting a set that may be there, the number of a node, and matches in descending order. Assumes nothing.
 use mathlib.Core.Path.{_≡_, refl, sym, ap, _∙_, subst}
 use mathlib.Core.Logic.{_⊎_, inl, inr, ⊎-elim}
-use mathlib.Core.Bool.{Bool, true, false, _&&_, _||_, true≢false}
-use mathlib.Core.List.{List, [], _∷_, _++_, append-nil, List·Memᴰ as Mem, List·Memᴰ·head as m-head, List·Memᴰ·tail as m-tail, List·Memᴰ·cases-cons as mem-cons, List·Memᴰ·not-nil as not-nil, List·Memᴰ·eq-of-singleton as mem-one, List·Memᴰ·append-cases as mem-cases, Memᴰ·append-left as mem-left, Memᴰ·append-right as mem-right, Memᴰ·cast as mem-cast}
+use mathlib.Core.Bool.{Bool, true, false, _&&_, true≢false}
+use mathlib.Core.List.{List, [], _∷_, _++_, append-nil, List·Memᴰ as Mem, List·Memᴰ·head as m-head, List·Memᴰ·tail as m-tail, List·Memᴰ·not-nil as not-nil, List·Memᴰ·eq-of-singleton as mem-one, List·Memᴰ·append-cases as mem-cases, Memᴰ·append-left as mem-left, Memᴰ·append-right as mem-right, Memᴰ·cast as mem-cast}
 use Prim.Native.Nat.{ℕ, zero, suc, _≤_, _<_}
 use native.Mathlib.Omega.{arith}
 use native.Mathlib.Decide.{decLt}
 use lib.ListN.{length, getD}
 use lib.Dec.{ltb, leb, eqb}
-use borrow.Author.Tests.{eqb-true, eqb-false, eq-eqb, ltb-true, ltb-false, lt-ltb, leb-true, leb-false, le-leb}
-use Rattle.bitset.proofs.Bools.{two, or-true, or-left, or-right, or-false, and-true}
-use Rattle.molecule.specs.Lists.{first, any, fold, sortBy}
+use borrow.Author.Tests.{eqb-true, eqb-false, eq-eqb, ltb-true, lt-ltb, leb-true, le-leb}
+use Rattle.bitset.proofs.Bools.{two, or-true, or-left, or-right, and-true}
+use Rattle.molecule.specs.Lists.{any, fold, sortBy}
 use Rattle.molecule.proofs.Lists.{mem-at, at-mem, any-some, any-none, Ordered, sort-ordered}
 use Rattle.molecule.proofs.Scans.{first-hit, first-none}
 use Rattle.canonize.proofs.Lists.{Distinct}

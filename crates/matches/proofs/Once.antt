@@ -1,7 +1,7 @@
 -- No match stands twice: pairing up matches what it has not matched before. Assumes nothing.
-use mathlib.Core.Path.{_≡_, refl, sym, ap, _∙_, subst}
+use mathlib.Core.Path.{_≡_, refl, sym, _∙_, subst}
 use mathlib.Core.Logic.{_⊎_, inl, inr, ⊎-elim}
-use mathlib.Core.List.{List, [], _∷_, _++_, List·Memᴰ as Mem, List·Memᴰ·head as m-head, List·Memᴰ·tail as m-tail, List·Memᴰ·not-nil as not-nil, List·Memᴰ·eq-of-singleton as mem-one, List·Memᴰ·append-cases as mem-cases, Memᴰ·append-left as mem-left, Memᴰ·cast as mem-cast}
+use mathlib.Core.List.{List, [], _∷_, List·Memᴰ as Mem, List·Memᴰ·head as m-head, List·Memᴰ·tail as m-tail, List·Memᴰ·not-nil as not-nil, List·Memᴰ·eq-of-singleton as mem-one, List·Memᴰ·append-cases as mem-cases, Memᴰ·cast as mem-cast}
 use Prim.Native.Nat.{ℕ, _<_}
 use native.Mathlib.Omega.{arith}
 use lib.ListN.{length, getD}

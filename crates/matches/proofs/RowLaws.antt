@@ -1,13 +1,12 @@
 -- Rows 9 and 10: what their answer is, and that a table on its way tells row 9 already. Assumes nothing.
-use mathlib.Core.Path.{_≡_, sym, ap, _∙_}
+use mathlib.Core.Path.{_≡_, ap, _∙_}
 use mathlib.Core.List.{List}
 use Prim.Native.Nat.{ℕ, _≤_, _<_}
 use native.Mathlib.Omega.{arith}
 use lib.ListN.{length, getD, length-append, List·getD-append}
-use lib.Dec.{ltb}
 use borrow.Author.Tests.{lt-ltb, le-ltb}
 use Rattle.molecule.specs.Lists.{first}
-use Rattle.molecule.specs.Check.{Answer, accepted, refused, row}
+use Rattle.molecule.specs.Check.{accepted, refused, row}
 use Rattle.molecule.proofs.Scans.{first-is, first-past}
 use Rattle.molecule.proofs.RowLaws.{row-hit, row-pass, rowAt-hit, rowAt-pass}
 use Rattle.matches.specs.Table.{Table}

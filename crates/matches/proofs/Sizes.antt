@@ -27,8 +27,8 @@ use Rattle.canonize.proofs.OfRecords.{numbers-bounds, numbers-mem, numbers-dist
 use Rattle.matches.specs.Table.{Match, Table, extended, candidates, extend, sizes, singles}
 use Rattle.matches.specs.Laws.{Twins}
 use Rattle.matches.proofs.Noting.{all-in, all-has, all-distinct}
-use Rattle.matches.proofs.Pairing.{Names, Matched, Sound, AllSound, Grows, grows-refl, grows-trans, grows-by, matched-grows, extend-grows, extend-needs, extend-sound, extend-distinct, extend-matched, extend-ordered}
-use Rattle.matches.proofs.Once.{Within, extend-once}
+use Rattle.matches.proofs.Pairing.{Matched, AllSound, Grows, grows-refl, grows-trans, grows-by, extend-grows, extend-needs, extend-sound, extend-distinct, extend-matched, extend-ordered}
+use Rattle.matches.proofs.Once.{extend-once}
 
 -- a node comes before another: it is smaller, or of one size with it and its label not the later one (single bonds go by their numbers)
 abbrev pub Precedes : Bytes → ℕ → ℕ → Type 0

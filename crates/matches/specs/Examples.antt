@@ -1,14 +1,14 @@
 -- Worked match tables and rows 9 and 10, by computing.
 use mathlib.Core.Path.{_≡_, refl}
-use mathlib.Core.List.{List, [], _∷_, _++_, map}
+use mathlib.Core.List.{[], _∷_, _++_, map}
 use Prim.Native.Nat.{ℕ, zero, suc}
 use lib.ListN.{length, set}
 use Rattle.molecule.specs.Lists.{Bytes, insertBy, sortBy}
-use Rattle.molecule.specs.Check.{Answer, accepted, refused}
+use Rattle.molecule.specs.Check.{accepted, refused}
 use Rattle.molecule.specs.Examples.{compute as molecules, times, chainEnds, chain}
 use Rattle.canonize.specs.Strings.{same}
 use Rattle.canonize.specs.Examples.{compute as labels}
-use Rattle.matches.specs.Table.{Table, Pair, note, numberOf, meet, pairUp, place, notBelow, extended, candidates, groups, extend, sizes, singles, matchTable, pairsOf, pairs}
+use Rattle.matches.specs.Table.{Pair, note, numberOf, meet, pairUp, place, notBelow, extended, candidates, groups, extend, sizes, singles, matchTable, pairsOf, pairs}
 use Rattle.matches.specs.Rows.{overflows, tooMany, tableAnswer}
 
 -- to unfold it is to unfold every definition
