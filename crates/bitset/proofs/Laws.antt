@@ -9,7 +9,7 @@ use native.Mathlib.Omega.{arith}
 use native.Mathlib.Decide.{le-ind, ℕ-discrete}
 use lib.Arith.{bin-ind, half-le}
 use lib.Pow.{shr-shr, pow-pos, pow-lt, pow-mono, shl-exact}
-use lib.Bits.{bitAnd, bitOr, bitXor, and-step, or-step, and-shr, or-shr, xor-shr, xor-add-and, and-le-l, and-comm, and-zero-r, and-self, or-zero-r, or-lt}
+use lib.Bits.{bitAnd, bitOr, bitXor, and-step, or-step, and-shr, or-shr, xor-shr, xor-add-and, and-le-l, and-comm, and-zero-r, and-self, or-lt}
 use mathlib.Core.Bool.{not}
 use borrow.Author.Tests.{ne-eqb}
 use lib.Dec.{lit<, eqb}

@@ -13,7 +13,7 @@ use lib.Bits.{bitAnd, bitOr, or-shifted, or-comm}
 use lib.Count.{trailingZeros}
 use Rattle.bitset.specs.Bits.{bit, Sub, Disjoint, diff, members, setOf}
 use Rattle.bitset.proofs.Bools.{two}
-use Rattle.bitset.proofs.Laws.{lt-pow, bit-le, bit-and, bit-or, bit-diff, bit-empty, bit-one, bit-other, same, sub-bit, or-cases, one-cases, low-bit, mem-bit, bit-mem}
+use Rattle.bitset.proofs.Laws.{lt-pow, bit-le, bit-and, bit-or, bit-diff, bit-empty, bit-one, same, sub-bit, or-cases, one-cases, low-bit, mem-bit, bit-mem}
 
 -- a number is in a set or it is not
 pub in-or-out : (s i : ℕ) → (bit s i ≡ 1) ⊎ (bit s i ≡ 0)

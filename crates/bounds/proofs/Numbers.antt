@@ -4,7 +4,7 @@ use mathlib.Core.Logic.{_⊎_, inl, inr, ⊎-elim}
 use mathlib.Core.Bool.{true≢false}
 use mathlib.Core.List.{List, [], _∷_, _++_, List·Memᴰ, List·Memᴰ·cases-cons, List·Memᴰ·not-nil, List·Memᴰ·head, List·Memᴰ·tail, List·Permᴰ, List·Permᴰ·nil, List·Permᴰ·cons, List·Permᴰ·swap, List·Permᴰ·trans}
 use Prim.Native.Nat.{ℕ, zero, suc, _+_, _-_, _*_, _/_, _^_, _≤_, _<_, max}
-use native.Mathlib.Nat.{div-lt-iff-lt-mul, div-add-mod, mod-lt, mul-le-mul-left, mul-le-mul-right, add-div-right, pow-suc}
+use native.Mathlib.Nat.{div-lt-iff-lt-mul, div-add-mod, mod-lt, mul-le-mul-right, add-div-right, pow-suc}
 use native.Mathlib.Decide.{decLt, decLe, ℕ-discrete}
 use native.Mathlib.Omega.{arith}
 use lib.Count.{leadingZeros, leading-length}

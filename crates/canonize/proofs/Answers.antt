@@ -1,25 +1,25 @@
 -- label's answer, row by row. Assumes nothing.
-use mathlib.Core.Path.{_≡_, refl, sym, ap, _∙_}
-use mathlib.Core.Bool.{Bool, true, false, not, _||_}
+use mathlib.Core.Path.{_≡_, ap, _∙_}
+use mathlib.Core.Bool.{true, false, not, _||_}
 use mathlib.Core.List.{_++_}
 use Prim.Native.Nat.{ℕ, _+_, _^_, _≤_, _<_}
 use native.Mathlib.Omega.{arith}
 use native.Mathlib.Nat.{zero-add}
-use lib.ListN.{length, take, drop, replicate, length-replicate}
-use lib.Dec.{ltb, leb, eqb}
+use lib.ListN.{length, drop, replicate, length-replicate}
+use lib.Dec.{leb, eqb}
 use borrow.Author.Tests.{lt-ltb, le-ltb, leb-false, not-false}
 use Rattle.bitset.proofs.Bools.{or-false}
 use Rattle.molecule.specs.Lists.{Bytes}
 use Rattle.molecule.specs.Record.{bonds}
 use Rattle.molecule.specs.Touch.{connected}
 use Rattle.molecule.specs.Connected.{Own, Connected}
-use Rattle.molecule.specs.Check.{Answer, accepted, refused, row, check}
+use Rattle.molecule.specs.Check.{accepted, refused, row, check}
 use Rattle.molecule.proofs.Accepted.{accepted-formed}
 use Rattle.molecule.proofs.Components.{connected-true}
 use Rattle.molecule.proofs.Lists.{zeros-at}
 use Rattle.canonize.specs.Label.{label}
 use Rattle.canonize.specs.Buffers.{written, Slots, Wrote}
-use Rattle.canonize.specs.Answer.{badSet, labelVerdict, LabelAnswer, labelled, turnedBack, labelAnswer, bufferAfter}
+use Rattle.canonize.specs.Answer.{badSet, labelVerdict, labelled, turnedBack, labelAnswer, bufferAfter}
 
 module _ (r : Bytes) (s : ℕ) (buffer : Bytes) where
   -- turned back: the row, and the buffer as it was

@@ -1,9 +1,9 @@
 -- The fragment of a set of bonds of a record: its bonds, arcs and atoms by the set's members; of a connected set of an accepted record it is a clean tree. Assumes nothing.
-use mathlib.Core.Path.{_≡_, refl, sym, ap, _∙_}
+use mathlib.Core.Path.{_≡_, refl, ap, _∙_}
 use mathlib.Core.Logic.{_⊎_, inl, inr, _≢_, ⊎-elim, _↔_}
-use mathlib.Core.List.{List, [], _∷_, map, List·Memᴰ as Mem, Memᴰ·cast as mem-cast, Memᴰ·map as mem-map, Memᴰ·of-map as mem-of-map}
+use mathlib.Core.List.{List, _∷_, map, List·Memᴰ as Mem, Memᴰ·map as mem-map, Memᴰ·of-map as mem-of-map}
 use Prim.Native.Nat.{ℕ, zero, suc, _-_, _/_, _%_, _^_, _<_}
-use native.Mathlib.Nat.{zero-add, sub-zero, sub-self}
+use native.Mathlib.Nat.{sub-zero, sub-self}
 use native.Mathlib.Omega.{arith}
 use lib.Dec.{eqb}
 use lib.Pow.{pow-pos}

@@ -1,12 +1,10 @@
 -- The rounds of label, one after the other, and what is left when they end. Assumes nothing.
-use mathlib.Core.Path.{_≡_, sym, ap, _∙_}
-use mathlib.Core.Logic.{_≢_}
+use mathlib.Core.Path.{_≡_}
 use mathlib.Core.Bool.{Bool, true, false}
 use mathlib.Core.List.{List·Memᴰ as Mem}
-use Prim.Native.Nat.{ℕ, _≤_, _<_}
+use Prim.Native.Nat.{ℕ, _<_}
 use native.Mathlib.Omega.{arith}
-use lib.ListN.{length}
-use Rattle.bitset.specs.Bits.{bit, Sub, diff, size}
+use Rattle.bitset.specs.Bits.{bit, diff, size}
 use Rattle.bitset.proofs.Laws.{member-lt}
 use Rattle.molecule.specs.Lists.{Bytes, pick}
 use Rattle.molecule.specs.Record.{atoms, bonds, endA, endB}

@@ -1,9 +1,9 @@
 -- A record that is accepted is a clean tree: rows 2 to 6 of document 01 give Clean; and sets of bond numbers.
 use Rattle.bitset.proofs.Bools.{two}
-use mathlib.Core.Path.{_≡_, refl, sym, ap, ap₂, subst, _∙_}
-use mathlib.Core.Logic.{_⊎_, inl, inr, _↔_}
-use mathlib.Core.Bool.{Bool, true, false, not}
-use mathlib.Core.List.{List, [], _∷_, _++_, map, List·Memᴰ as Mem, List·Memᴰ·head as m-head, List·Memᴰ·tail as m-tail, Memᴰ·cast as mem-cast, Memᴰ·map as mem-map, Memᴰ·of-map as mem-of-map, List·Permᴰ as Perm}
+use mathlib.Core.Path.{_≡_, refl, sym, ap, subst, _∙_}
+use mathlib.Core.Logic.{_⊎_, inl, inr}
+use mathlib.Core.Bool.{Bool, true, false}
+use mathlib.Core.List.{List, _∷_, map, List·Memᴰ as Mem, List·Memᴰ·head as m-head, List·Memᴰ·tail as m-tail, Memᴰ·cast as mem-cast, Memᴰ·map as mem-map, Memᴰ·of-map as mem-of-map}
 use Prim.Native.Nat.{ℕ, zero, suc, _+_, _*_, _≤_, _<_}
 use native.Mathlib.Omega.{arith}
 use lib.ListN.{length, length-map}
@@ -13,12 +13,11 @@ use Rattle.molecule.specs.Lists.{filter}
 use Rattle.canonize.proofs.Sorting.{not-both, Order3, below, same, above, order3}
 use Rattle.canonize.proofs.Lists.{Distinct}
 use Rattle.canonize.proofs.RoseTrees.{Code}
-use Rattle.canonize.proofs.Peeling.{Joined, treeLabel}
-use Rattle.canonize.proofs.Rounds.{Treelike, arcs-turn}
+use Rattle.canonize.proofs.Peeling.{treeLabel}
+use Rattle.canonize.proofs.Rounds.{arcs-turn}
 use Rattle.canonize.proofs.Held.{Clean}
 use Rattle.canonize.proofs.Parts.{Connected, Walk, stop, step, Meets, Linked, arc-bond}
-use Rattle.canonize.proofs.Facts.{part, label-length}
-use Rattle.canonize.proofs.Choose.{sets-iff}
+use Rattle.canonize.proofs.Facts.{label-length}
 use Rattle.canonize.proofs.OnStrings.{label-document}
 
 pub numbers-length : (n k : ℕ) → length (numbersFrom k n) ≡ n

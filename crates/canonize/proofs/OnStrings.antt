@@ -1,20 +1,19 @@
 -- The label in the words of document 01, on strings: an atom starts with the one string of its element code; in a round each end atom
 -- hands its neighbour the bond code followed by its own collapsed strings. It is the label by trees of Peeling.antt.
 use Rattle.bitset.proofs.Bools.{two}
-use mathlib.Core.Path.{_≡_, refl, sym, ap, ap₂, subst, _∙_}
+use mathlib.Core.Path.{_≡_, refl, sym, ap, ap₂, _∙_}
 use mathlib.Core.Logic.{_⊎_, inl, inr}
-use mathlib.Core.Bool.{Bool, true, false, not}
-use mathlib.Core.List.{List, [], _∷_, _++_, map, List·Memᴰ as Mem, List·Memᴰ·head as m-head, List·Permᴰ as Perm, List·Permᴰ·nil as p-nil, List·Permᴰ·cons as p-cons, List·Permᴰ·trans as p-trans, Permᴰ·refl as perm-refl, Permᴰ·symm as perm-sym, Permᴰ·append-left as perm-left, Permᴰ·middle as perm-middle}
-use Prim.Native.Nat.{ℕ, zero, suc, _+_, _*_, _≤_, _<_}
+use mathlib.Core.Bool.{true, false, not}
+use mathlib.Core.List.{List, [], _∷_, _++_, map, List·Permᴰ as Perm, List·Permᴰ·cons as p-cons, List·Permᴰ·trans as p-trans, Permᴰ·refl as perm-refl, Permᴰ·symm as perm-sym, Permᴰ·append-left as perm-left, Permᴰ·middle as perm-middle}
+use Prim.Native.Nat.{ℕ, zero, suc, _+_}
 use lib.ListN.{length}
-use lib.Dec.{eqb}
-use Rattle.canonize.specs.Fragment.{Bond, Frag, Peel, arcs, endAtom, finish, labelOf, more, peel, round, start, toEnds, turn, twoLeft}
-use Rattle.canonize.specs.Strings.{collapse, insert, join, lexLe, sort, wrap}
-use Rattle.molecule.specs.Lists.{filter, pick}
+use Rattle.canonize.specs.Fragment.{Bond, Frag, Peel, arcs, endAtom, finish, labelOf, more, peel, round, start, toEnds, twoLeft}
+use Rattle.canonize.specs.Strings.{collapse}
+use Rattle.molecule.specs.Lists.{filter}
 use Rattle.canonize.proofs.Wrapping.{collapse-canonical}
-use Rattle.canonize.proofs.RoseTrees.{Kids, nil, kid, Tree, strings, nodeCode, code, twoCode}
+use Rattle.canonize.proofs.RoseTrees.{strings, nodeCode, code, twoCode}
 use Rattle.canonize.proofs.Lists.{perm-eq, map-agree}
-use Rattle.canonize.proofs.Peeling.{both, TreePeel, gather, gather-strings, treeRound, treePeel, settle-more, settle-stop, treeAt, treeTwo, treeLast, treeFinish, treeStart, treeLabel}
+use Rattle.canonize.proofs.Peeling.{both, TreePeel, gather, gather-strings, treeRound, treePeel, settle-more, settle-stop, treeTwo, treeLast, treeStart, treeLabel}
 
 -- a round more, or none
 pub peel-more : (k : ℕ) (z : Peel) → more (z .present) ≡ true → peel (suc k) z ≡ peel k (round z)

@@ -1,13 +1,12 @@
 -- From one shape to a map of atoms, and back.
-use mathlib.Core.Path.{_≡_, refl, sym, ap, ap₂, subst, _∙_}
-use mathlib.Core.Logic.{_⊎_, inl, inr, _↔_}
-use mathlib.Core.List.{List, [], _∷_, _++_, map, append-assoc, List·Memᴰ as Mem, List·Memᴰ·head as m-head, List·Memᴰ·tail as m-tail, Memᴰ·cast as mem-cast, Memᴰ·append-left as mem-left, Memᴰ·append-right as mem-right, List·Memᴰ·append-cases as mem-cases, Memᴰ·map as mem-map, Memᴰ·of-map as mem-of-map, List·Permᴰ as Perm, List·Permᴰ·nil as p-nil, List·Permᴰ·cons as p-cons, List·Permᴰ·swap as p-swap, List·Permᴰ·trans as p-trans, Permᴰ·refl as perm-refl, Permᴰ·symm as perm-sym, Permᴰ·append-left as perm-left, Permᴰ·append-right as perm-right, Permᴰ·middle as perm-middle}
-use Prim.Native.Nat.{ℕ, zero, suc, _+_, _*_, _≤_, _<_}
+use mathlib.Core.Path.{_≡_, refl, sym, ap, ap₂, _∙_}
+use mathlib.Core.List.{List, [], _∷_, _++_, map, List·Memᴰ as Mem, List·Memᴰ·head as m-head, List·Memᴰ·tail as m-tail, Memᴰ·cast as mem-cast, Memᴰ·append-left as mem-left, Memᴰ·append-right as mem-right, List·Permᴰ as Perm, List·Permᴰ·nil as p-nil, List·Permᴰ·cons as p-cons, List·Permᴰ·trans as p-trans, Permᴰ·refl as perm-refl, Permᴰ·symm as perm-sym, Permᴰ·append-left as perm-left}
+use Prim.Native.Nat.{ℕ, _+_}
 use native.Mathlib.Omega.{arith}
 use native.Mathlib.Decide.{ℕ-discrete}
-use lib.ListN.{length, length-append, length-map}
-use Rattle.canonize.proofs.RoseTrees.{Kids, nil, kid, Tree, bondsIn, bonds, Kid, here, there, Like, no-kids, pair, _≈_}
-use Rattle.canonize.proofs.Lists.{perm-append, perm-exchange, perm-eq, perm-length, perm-mem, Distinct, distinct-left, distinct-right, distinct-apart, distinct-perm, perm-map, map-append, memb, map-distinct}
+use lib.ListN.{length, length-append}
+use Rattle.canonize.proofs.RoseTrees.{Kids, nil, kid, Tree, bondsIn, Kid, here, there, Like, no-kids, pair, _≈_}
+use Rattle.canonize.proofs.Lists.{perm-append, perm-exchange, perm-eq, Distinct, distinct-left, distinct-right, distinct-apart, distinct-perm, perm-map, map-append, memb}
 
 -- what a child says: its parent, the bond's code, its atom and its element code
 pub record Item : Type 0 where

@@ -1,21 +1,20 @@
 -- The label of a fragment by rounds of peeling, as document 01 has it, and that it does not see an isomorphism.
 use Rattle.bitset.proofs.Bools.{two}
-use borrow.Author.Tests.{eqb-false, eqb-true}
+use borrow.Author.Tests.{eqb-true}
 use mathlib.Core.Path.{_≡_, refl, sym, ap, ap₂, subst, _∙_}
-use mathlib.Core.Logic.{_⊎_, inl, inr, _↔_}
+use mathlib.Core.Logic.{_⊎_, inl, inr}
 use mathlib.Core.Bool.{Bool, true, false, not, _&&_}
-use mathlib.Core.List.{List, [], _∷_, _++_, map, append-assoc, append-nil, map-map, cons≢nil, nil≢cons, List·Memᴰ as Mem, List·Memᴰ·head as m-head, List·Memᴰ·tail as m-tail, Memᴰ·cast as mem-cast, Memᴰ·append-left as mem-left, Memᴰ·append-right as mem-right, List·Memᴰ·append-cases as mem-cases, Memᴰ·map as mem-map, Memᴰ·of-map as mem-of-map, List·Permᴰ as Perm, List·Permᴰ·nil as p-nil, List·Permᴰ·cons as p-cons, List·Permᴰ·swap as p-swap, List·Permᴰ·trans as p-trans, Permᴰ·refl as perm-refl, Permᴰ·symm as perm-sym, Permᴰ·append-left as perm-left, Permᴰ·append-right as perm-right, Permᴰ·middle as perm-middle}
-use Prim.Native.Nat.{ℕ, zero, suc, _+_, _*_, _≤_, _<_}
+use mathlib.Core.List.{List, [], _∷_, _++_, map, map-map, List·Memᴰ as Mem, List·Memᴰ·head as m-head, List·Permᴰ as Perm, List·Permᴰ·nil as p-nil, List·Permᴰ·cons as p-cons, List·Permᴰ·swap as p-swap, List·Permᴰ·trans as p-trans, Permᴰ·symm as perm-sym}
+use Prim.Native.Nat.{ℕ, zero, suc, _+_, _*_}
 use native.Mathlib.Omega.{arith}
-use lib.ListN.{length, length-append, length-map}
+use lib.ListN.{length, length-map}
 use lib.Dec.{eqb}
-use Rattle.canonize.specs.Fragment.{Bond, Frag, arcs, degree, endAtom, more, toEnds, turn}
-use Rattle.canonize.specs.Strings.{collapse}
-use Rattle.molecule.specs.Lists.{filter, pick}
-use Rattle.canonize.proofs.Sorting.{not-both, perm-cons, perm-nil, Out, first, later}
+use Rattle.canonize.specs.Fragment.{Bond, Frag, arcs, endAtom, more, toEnds, turn}
+use Rattle.molecule.specs.Lists.{filter}
+use Rattle.canonize.proofs.Sorting.{perm-cons, Out, first, later}
 use Rattle.canonize.proofs.Wrapping.{collapse-canonical}
 use Rattle.canonize.proofs.RoseTrees.{Kids, nil, kid, Tree, strings, nodeCode, code, twoCode, perm-two}
-use Rattle.canonize.proofs.Lists.{perm-append, perm-exchange, perm-eq, perm-length, perm-mem, Distinct, distinct-perm, perm-map, map-append, memb, map-distinct, keep-yes, keep-no, keep-perm, keep-mem, keep-intro, keep-map, keep-same, keep-split, keep-distinct, map-agree, eqb-yes, eqb-no, bool-iff}
+use Rattle.canonize.proofs.Lists.{perm-append, perm-eq, perm-length, Distinct, distinct-perm, perm-map, map-distinct, keep-perm, keep-mem, keep-map, map-agree, eqb-yes, bool-iff}
 
 abbrev pub onBond : (ℕ → ℕ) → Bond → Bond
 onBond f b = record { u = f (b .u); v = f (b .v); code = b .code }

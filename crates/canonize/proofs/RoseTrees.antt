@@ -1,14 +1,13 @@
 -- Rose trees of atoms, their codes, and: two codes are equal exactly when the trees have one shape.
-use mathlib.Core.Path.{_≡_, refl, sym, ap, ap₂, subst, _∙_}
-use mathlib.Core.Logic.{_⊎_, inl, inr, _↔_, _≢_}
-use mathlib.Core.Bool.{true}
-use mathlib.Core.List.{List, [], _∷_, _++_, append-nil, head-eq-of-cons-eq, tail-eq-of-cons-eq, nil≢cons, cons≢nil, List·Permᴰ as Perm, List·Permᴰ·nil as p-nil, List·Permᴰ·cons as p-cons, List·Permᴰ·swap as p-swap, List·Permᴰ·trans as p-trans, Permᴰ·refl as perm-refl, Permᴰ·symm as perm-sym}
-use Prim.Native.Nat.{ℕ, zero, suc, _+_, _*_, _≤_, _<_}
+use mathlib.Core.Path.{_≡_, refl, ap}
+use mathlib.Core.Logic.{_⊎_, inl, inr, _≢_}
+use mathlib.Core.List.{List, [], _∷_, head-eq-of-cons-eq, tail-eq-of-cons-eq, cons≢nil, List·Permᴰ as Perm}
+use Prim.Native.Nat.{ℕ, _+_, _*_, _≤_}
 use native.Mathlib.Omega.{arith}
-use lib.ListN.{length, length-append}
-use Rattle.canonize.specs.Strings.{collapse, insert, join, lexLe, sort, wrap}
-use Rattle.canonize.proofs.Sorting.{sort-perm, sort-canonical, perm-of-sort, Out, first, later, perm-out, perm-cons, perm-nil}
-use Rattle.canonize.proofs.Wrapping.{Bal, done, opens, free, shuts, Balanced, All, none, both, all-perm, collapse-balanced, collapse-perm, collapse-canonical, total, total-nil, total-cons, length-collapse}
+use lib.ListN.{length}
+use Rattle.canonize.specs.Strings.{collapse}
+use Rattle.canonize.proofs.Sorting.{Out, first, later, perm-cons, perm-nil}
+use Rattle.canonize.proofs.Wrapping.{done, free, Balanced, All, none, both, collapse-balanced, collapse-perm, total, total-nil, total-cons, length-collapse}
 
 -- The children of an atom, first child next sibling: bond code, atom number, element code, what hangs under the child, the other children.
 -- A rose tree is an atom, its element code and its children.

@@ -1,24 +1,22 @@
 -- A round, a bond at a time: the bonds of L are passed in any order, and those that have an end atom hand over. Assumes nothing.
 use mathlib.Core.Path.{_≡_, refl, sym, ap, _∙_}
 use mathlib.Core.Logic.{_⊎_, inl, inr, _≢_, ⊎-elim}
-use mathlib.Core.Bool.{Bool, true, false, true≢false, _||_}
+use mathlib.Core.Bool.{true, false, true≢false}
 use mathlib.Core.List.{_∷_}
-use Prim.Native.Nat.{ℕ, _+_, _^_, _≤_, _<_}
+use Prim.Native.Nat.{ℕ, _^_, _≤_}
 use native.Mathlib.Omega.{arith}
-use native.Mathlib.Decide.{ℕ-discrete}
 use lib.ListN.{length}
 use lib.Bits.{bitOr}
 use Rattle.bitset.specs.Bits.{bit, Sub, diff}
-use Rattle.bitset.proofs.Bools.{two, or-left, or-right}
-use Rattle.bitset.proofs.Laws.{bit-le, bit-or, bit-diff, bit-empty, bit-one, bit-other, one-cases, or-cases, same, sub-bit, sub-trans, sub-anti}
-use Rattle.bitset.proofs.Members.{in-or-out, sub-in, sub-of, or-left-in, or-right-in, one-is, diff-sub}
-use Rattle.molecule.specs.Lists.{Bytes, pick}
+use Rattle.bitset.proofs.Laws.{bit-le, bit-diff, bit-empty, bit-one, one-cases, or-cases, sub-trans, sub-anti}
+use Rattle.bitset.proofs.Members.{sub-in, sub-of, or-left-in, or-right-in, one-is, diff-sub}
+use Rattle.molecule.specs.Lists.{Bytes}
 use Rattle.molecule.specs.Record.{endA, endB, code}
 use Rattle.molecule.specs.Connected.{Own}
 use Rattle.canonize.specs.Strings.{collapse}
 use Rattle.canonize.specs.Buffers.{slot, Slots}
-use Rattle.canonize.specs.Words.{isTip, hasTip, outer, tip, stringsAt, handed, Stored, Fits, Round}
-use Rattle.canonize.proofs.Words.{outer-in, outer-has, outer-sub, strings-same}
+use Rattle.canonize.specs.Words.{isTip, hasTip, outer, tip, handed, Stored, Fits, Round}
+use Rattle.canonize.proofs.Words.{outer-in, outer-has, strings-same}
 
 -- the first end is the end atom where it is one, else the second
 pub tip-first : (r : Bytes) (L i : ℕ) → isTip r L (endA r i) ≡ true → tip r L i ≡ endA r i

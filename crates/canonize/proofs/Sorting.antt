@@ -2,15 +2,14 @@
 use borrow.Author.Tests.{le-ltb, lt-ltb}
 use Rattle.bitset.proofs.Bools.{two}
 use mathlib.Core.Path.{_≡_, refl, sym, ap, ap₂, subst, _∙_}
-use mathlib.Core.Bool.{Bool, true, false, not}
+use mathlib.Core.Bool.{Bool, true, false}
 use mathlib.Core.Logic.{_⊎_, inl, inr}
-use mathlib.Core.List.{List, [], _∷_, _++_, List·Permᴰ as Perm, List·Permᴰ·nil as p-nil, List·Permᴰ·cons as p-cons, List·Permᴰ·swap as p-swap, List·Permᴰ·trans as p-trans, Permᴰ·refl as perm-refl, Permᴰ·symm as perm-sym}
-use Prim.Native.Nat.{ℕ, zero, suc, _+_, _≤_, _<_}
+use mathlib.Core.List.{List, [], _∷_, List·Permᴰ as Perm, List·Permᴰ·nil as p-nil, List·Permᴰ·cons as p-cons, List·Permᴰ·swap as p-swap, List·Permᴰ·trans as p-trans, Permᴰ·refl as perm-refl, Permᴰ·symm as perm-sym}
+use Prim.Native.Nat.{ℕ, _<_}
 use native.Mathlib.Omega.{arith}
 use native.Mathlib.Decide.{decLt}
-use lib.Dec.{T, ltb, lt→ltb, ltb→lt}
+use lib.Dec.{T}
 use Rattle.canonize.specs.Strings.{insert, lexLe, sort}
-use Rattle.molecule.specs.Lists.{pick}
 
 -- which of two numbers is larger
 pub data Order3 (x y : ℕ) : Type 0 where

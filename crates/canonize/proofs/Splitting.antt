@@ -5,13 +5,13 @@ use mathlib.Core.Logic.{_⊎_, inl, inr}
 use mathlib.Core.Bool.{true, false}
 use mathlib.Core.List.{List, [], _∷_, _++_, map, append-nil, List·Memᴰ as Mem, List·Memᴰ·head as m-head, List·Memᴰ·tail as m-tail, Memᴰ·of-map as mem-of-map, List·Permᴰ as Perm, List·Permᴰ·nil as p-nil, List·Permᴰ·cons as p-cons, List·Permᴰ·trans as p-trans, Permᴰ·refl as perm-refl, Permᴰ·symm as perm-sym, Permᴰ·middle as perm-middle}
 use Prim.Native.Nat.{ℕ, zero, suc, _+_, _-_, _/_, _%_, _^_, _≤_, _<_}
-use native.Mathlib.Nat.{add-zero, zero-add, suc-add, add-suc, sub-zero}
+use native.Mathlib.Nat.{add-zero, zero-add, suc-add, add-suc}
 use native.Mathlib.Omega.{arith}
 use lib.Arith.{bin-ind}
 use lib.Bits.{and-shr, and-step, and-le-l, and-zero-r}
 use Rattle.bitset.specs.Bits.{bit, Sub, diff, front, membersFrom, members}
 use Rattle.bitset.proofs.Members.{members-bit}
-use Rattle.bitset.proofs.Laws.{diff-half, diff-low, members-step, mem-bit, one-sub, bit-diff, bit-le}
+use Rattle.bitset.proofs.Laws.{diff-half, diff-low, members-step, one-sub, bit-diff, bit-le}
 use Rattle.molecule.specs.Lists.{Bytes}
 use Rattle.canonize.specs.Strings.{lexLe, insert, sort}
 use Rattle.canonize.specs.Buffers.{Least, After}

@@ -1,18 +1,16 @@
 -- Lists put together from lists, and a list grouped by a key.
 use Rattle.bitset.proofs.Bools.{two}
-use borrow.Author.Tests.{eqb-false, eqb-true}
-use mathlib.Core.Path.{_≡_, refl, sym, ap, ap₂, subst, _∙_}
-use mathlib.Core.Logic.{_⊎_, inl, inr, _↔_}
-use mathlib.Core.Bool.{Bool, true, false, not, _&&_}
-use mathlib.Core.List.{List, [], _∷_, _++_, map, append-assoc, append-nil, List·Memᴰ as Mem, List·Memᴰ·head as m-head, List·Memᴰ·tail as m-tail, Memᴰ·cast as mem-cast, List·Permᴰ as Perm, List·Permᴰ·nil as p-nil, List·Permᴰ·cons as p-cons, List·Permᴰ·swap as p-swap, List·Permᴰ·trans as p-trans, Permᴰ·refl as perm-refl, Permᴰ·symm as perm-sym, Permᴰ·append-left as perm-left, Permᴰ·append-right as perm-right, Permᴰ·middle as perm-middle}
-use Prim.Native.Nat.{ℕ, zero, suc, _+_, _*_, _≤_, _<_}
+use mathlib.Core.Path.{_≡_, refl, sym, ap, _∙_}
+use mathlib.Core.Logic.{_⊎_, inl, inr}
+use mathlib.Core.Bool.{Bool, true, false, _&&_}
+use mathlib.Core.List.{List, [], _∷_, _++_, map, append-assoc, List·Memᴰ as Mem, List·Memᴰ·head as m-head, List·Memᴰ·tail as m-tail, Memᴰ·cast as mem-cast, List·Permᴰ as Perm, List·Permᴰ·nil as p-nil, List·Permᴰ·cons as p-cons, List·Permᴰ·swap as p-swap, List·Permᴰ·trans as p-trans, Permᴰ·refl as perm-refl, Permᴰ·append-left as perm-left, Permᴰ·middle as perm-middle}
+use Prim.Native.Nat.{ℕ, _+_, _*_, _≤_}
 use native.Mathlib.Omega.{arith}
 use native.Mathlib.Nat.{mul-suc}
-use lib.ListN.{length, length-append, length-map}
+use lib.ListN.{length, length-append}
 use lib.Dec.{eqb}
 use Rattle.molecule.specs.Lists.{filter, pick}
-use Rattle.canonize.proofs.Sorting.{not-both}
-use Rattle.canonize.proofs.Lists.{perm-append, perm-exchange, perm-eq, perm-length, perm-mem, Distinct, map-append, keep-mem, eqb-yes, eqb-no}
+use Rattle.canonize.proofs.Lists.{perm-append, perm-exchange, perm-eq, Distinct, map-append, eqb-yes, eqb-no}
 
 abbrev pub flat : {A B : Type 0} → (A → List B) → List A → List B
 flat g [] = []

@@ -9,7 +9,7 @@ use native.Mathlib.Omega.{arith}
 use lib.ListN.{length, length-append, length-map}
 use lib.Bits.{bitAnd, and-self}
 use lib.Dec.{eqb}
-use Rattle.bitset.specs.Bits.{bit, Sub, has, diff, size, members, setOf}
+use Rattle.bitset.specs.Bits.{bit, Sub, has, diff, size, members}
 use Rattle.bitset.proofs.Bools.{and-true, two}
 use Rattle.bitset.proofs.Laws.{bit-le, bit-and, bit-diff, bit-empty, same, sub-trans, member-lt, size-empty, size-le, members-size, members-done}
 use Rattle.bitset.proofs.Members.{members-bit, bit-members, in-or-out, sub-of, and-in, diff-in, diff-sub, setOf-in, setOf-has}

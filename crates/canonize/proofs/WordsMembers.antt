@@ -4,10 +4,9 @@ use borrow.Author.Tests.{eqb-true}
 use mathlib.Core.Path.{_≡_, refl, sym, ap, ap₂}
 use mathlib.Core.Logic.{_⊎_, inl, inr}
 use mathlib.Core.Bool.{Bool, true, false, not}
-use mathlib.Core.List.{List, [], _∷_, _++_, List·Memᴰ as Mem, List·Memᴰ·head as m-head, List·Memᴰ·tail as m-tail, List·Memᴰ·not-nil as not-nil, Memᴰ·cast as mem-cast, List·Permᴰ as Perm}
+use mathlib.Core.List.{List, [], _∷_, _++_, List·Memᴰ as Mem, List·Memᴰ·head as m-head, List·Memᴰ·tail as m-tail, List·Memᴰ·not-nil as not-nil, List·Permᴰ as Perm}
 use Prim.Native.Nat.{ℕ, _<_}
 use native.Mathlib.Omega.{arith}
-use native.Mathlib.Nat.{zero-add, sub-zero}
 use lib.Bits.{bitAnd, bitOr}
 use Rattle.bitset.specs.Bits.{bit, has, Sub, Disjoint, diff, members, Ascending}
 use Rattle.bitset.proofs.Laws.{members-ascend, or-cases}

@@ -1,9 +1,8 @@
 // Labels of fragments: two fragments have equal labels exactly when an element- and bond-keeping isomorphism joins them.
 ghost use mathlib.Core.Path.{_≡_};
 ghost use mathlib.Core.Bool.{not};
-ghost use mathlib.Core.List.{_++_};
 ghost use Prim.Native.Nat.{_≤_};
-ghost use lib.ListN.{length, drop};
+ghost use lib.ListN.{length};
 ghost use Rattle.molecule.specs.Touch.{bondsAtWords};
 ghost use Rattle.molecule.specs.Connected.{Own, Connected};
 ghost use Rattle.molecule.specs.Check.{check, accepted};

@@ -9,7 +9,7 @@ ghost use Rattle.molecule.specs.Connected.{Own};
 ghost use Rattle.molecule.specs.Tree.{Formed};
 ghost use Rattle.canonize.specs.Strings.{collapse};
 ghost use Rattle.canonize.specs.Buffers.{slot, Slots, Wrote};
-ghost use Rattle.canonize.specs.Words.{isTip, outer, tip, far, stringsAt, handed, centres, Stored, Fits, Round};
+ghost use Rattle.canonize.specs.Words.{isTip, outer, far, stringsAt, handed, centres, Stored, Fits, Round};
 use crate::strings;
 use molecule::fields;
 

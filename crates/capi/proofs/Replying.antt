@@ -1,5 +1,5 @@
 -- The reply to score's enum is document 01's answer, field by field, and demand 3 holds of a score. Assumes nothing.
-use mathlib.Core.Path.{_≡_, refl, sym, ap, _∙_}
+use mathlib.Core.Path.{_≡_, refl, sym}
 use mathlib.Core.List.{List}
 use Prim.Native.Nat.{ℕ, _<_}
 use native.Mathlib.Omega.{arith}
@@ -9,7 +9,7 @@ use Rattle.molecule.specs.Verdict.{numberOf}
 use Rattle.molecule.specs.declared.Fault.{Fault}
 use Rattle.molecule.specs.declared.Fault.the-variants as fault
 use Rattle.search.specs.Setting.{Setting, Room}
-use Rattle.search.specs.Answer.{ScoreAnswer, scored, turnedBack, scoreAnswer}
+use Rattle.search.specs.Answer.{scored, turnedBack, scoreAnswer}
 use Rattle.assembly.specs.declared.answer.Score.{Score}
 use Rattle.assembly.specs.declared.answer.Scored.{Scored}
 use Rattle.assembly.specs.declared.answer.Scored.the-variants as says

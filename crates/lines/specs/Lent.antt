@@ -1,5 +1,5 @@
 -- The trail and the tables that the program has for score.
-use Prim.Native.Nat.{ℕ, _≤_}
+use Prim.Native.Nat.{_≤_}
 use Rattle.lines.specs.declared.score_line.Lent.{Lent}
 use Rattle.lines.specs.declared.score_line.Room.{Room}
 use Rattle.lines.specs.declared.score_line.Room.the-variants.{Lengths, Unreadable}

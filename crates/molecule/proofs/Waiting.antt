@@ -2,13 +2,13 @@
 use mathlib.Core.Path.{_≡_, refl, sym, ap, _∙_}
 use mathlib.Core.Logic.{⊎-elim}
 use mathlib.Core.List.{[], _∷_}
-use Prim.Native.Nat.{ℕ, _+_, _^_, _<_}
+use Prim.Native.Nat.{ℕ, _+_, _^_}
 use native.Mathlib.Omega.{arith}
 use lib.Bits.{bitAnd, bitOr}
 use Rattle.bitset.specs.Bits.{bit, Sub, Disjoint, diff, size}
-use Rattle.bitset.proofs.Laws.{bit-le, bit-and, or-cases, sub-anti, sub-trans, one-sub, size-disjoint, size-one}
+use Rattle.bitset.proofs.Laws.{bit-le, bit-and, or-cases, sub-anti, one-sub, size-disjoint, size-one}
 use Rattle.bitset.proofs.Members.{sub-in, sub-of, one-is, apart-of, apart-out}
-use Rattle.bitset.proofs.Decide.{sets, v, none, and, less, or, is, sub, apart}
+use Rattle.bitset.proofs.Decide.{sets, v, none, less, or, is, sub, apart}
 use Rattle.molecule.specs.Touch.{reach}
 use Rattle.molecule.proofs.Growing.{reach-has, reach-closed, reach-least}
 

@@ -1,12 +1,12 @@
 -- Worked examples of document 01's record and of rows 1 to 6, by computing.
 use mathlib.Core.Path.{_≡_, refl}
-use mathlib.Core.List.{List, [], _∷_, _++_}
+use mathlib.Core.List.{[], _∷_, _++_}
 use Prim.Native.Nat.{ℕ, zero, suc}
 use lib.ListN.{set}
 use Rattle.bitset.specs.Bits.{bit, diff, sizeIn, size, front, membersIn, membersFrom, setOf, unions}
 use Rattle.molecule.specs.Lists.{Bytes, firstFrom, numbersFrom}
 use Rattle.molecule.specs.Touch.{around, grow, reach, partsIn, parts, isPart, isEnd, bondsAt, touching, component, components, connected, bondsAtWords, touchingWords}
-use Rattle.molecule.specs.Check.{Answer, accepted, refused, row, rowAt, badLength, badCounts, badElement, badCode, badEnds, across, walk, reached, unreached, check}
+use Rattle.molecule.specs.Check.{accepted, refused, row, rowAt, badLength, badCounts, badElement, badCode, badEnds, across, walk, reached, unreached, check}
 
 -- to unfold it is to unfold every definition: what a theorem by computing says
 unfoldable pub compute : Unit {0}

@@ -9,7 +9,7 @@ use lib.Dec.{eqb}
 use Rattle.molecule.specs.Lists.{Bytes}
 use Rattle.molecule.specs.Examples.{times, chain}
 use Rattle.canonize.specs.Strings.{sort}
-use Rattle.matches.specs.Table.{Pair, pair, sizeOf, pairs}
+use Rattle.matches.specs.Table.{pair, sizeOf, pairs}
 use Rattle.matches.specs.Examples.{compute as tables, starEnds, star}
 use Rattle.bounds.specs.Numbers.{ceilLog2}
 use Rattle.bounds.specs.Bounds.{usableEdges, intTerm, intBound, usableEdgesBound, leftOut, leastSize}

@@ -3,18 +3,16 @@ use borrow.Author.Needs.{needs}
 use borrow.Author.Tests.{eq-eqb, ne-eqb, le-leb, lt-leb, eqb-true, eqb-false, not-true, not-false}
 use mathlib.Core.Path.{_≡_, refl, sym, ap, _∙_}
 use mathlib.Core.Bool.{Bool, true, false, not}
-use mathlib.Core.Logic.{⊎-elim, _≢_}
+use mathlib.Core.Logic.{_≢_}
 use Prim.Native.Nat.{ℕ, _-_, _^_, _≤_}
 use native.Mathlib.Omega.{arith}
-use native.Mathlib.Nat.{lt-of-not-le}
 use native.Mathlib.Decide.{decLt}
 use lib.Bits.{bitAnd}
-use Rattle.bitset.specs.Bits.{Sub, isSub}
+use Rattle.bitset.specs.Bits.{isSub}
 use Rattle.molecule.specs.Lists.{Bytes}
 use Rattle.molecule.specs.Record.{bonds, allBonds}
 use Rattle.molecule.specs.Touch.{connected}
 use Rattle.molecule.specs.Connected.{Own}
-use Rattle.molecule.specs.Check.{check, accepted}
 use Rattle.molecule.proofs.Accepted.{accepted-formed}
 use Rattle.molecule.proofs.Components.{own-all, all-own, connected-words}
 use Rattle.canonize.specs.Answer.{badSet}

@@ -1,6 +1,6 @@
 -- `canonize::label` meets its contract. Assumes nothing.
 use borrow.Author.Needs.{needs}
-use mathlib.Core.Path.{_≡_, sym, ap, _∙_}
+use mathlib.Core.Path.{sym, ap, _∙_}
 use Rattle.molecule.specs.Verdict.{answerOf}
 use Rattle.canonize.proofs.Answers.{answer-refused, record-row}
 use Rattle.canonize.proofs.label.Statement.{statement}

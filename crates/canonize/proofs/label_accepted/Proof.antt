@@ -1,11 +1,9 @@
 -- `canonize::label_accepted` meets its contract. Assumes nothing.
 use borrow.Author.Needs.{needs}
 use borrow.Author.Tests.{not-true, not-false}
-use mathlib.Core.Path.{_≡_, refl, sym, ap, _∙_}
-use mathlib.Core.Bool.{true, false, not}
-use Prim.Native.Nat.{_≤_}
+use mathlib.Core.Path.{_≡_, refl, sym, _∙_}
+use mathlib.Core.Bool.{false}
 use native.Mathlib.Omega.{arith}
-use lib.ListN.{length}
 use Rattle.molecule.proofs.Accepted.{accepted-formed}
 use Rattle.canonize.specs.Answer.{badSet}
 use Rattle.canonize.proofs.Answers.{answer-refused, answer-label, set-row, buffer-row, no-row, good-set, slots-fresh}

@@ -1,21 +1,16 @@
 -- `canonize::label_into` meets its contract: the rounds are those of the label, and what is left when they end is finished. Assumes nothing.
 use borrow.Author.Needs.{needs}
 use mathlib.Core.Path.{_≡_, refl, sym, ap, _∙_}
-use mathlib.Core.List.{_∷_}
-use Prim.Native.Nat.{ℕ, _^_, _≤_, _<_}
+use Prim.Native.Nat.{ℕ, _^_, _<_}
 use native.Mathlib.Omega.{arith}
 use native.Mathlib.Decide.{decLt}
 use lib.ListN.{length}
-use Rattle.bitset.specs.Bits.{bit, size}
+use Rattle.bitset.specs.Bits.{size}
 use Rattle.bitset.proofs.Laws.{size-zero, size-empty, member-lt}
 use Rattle.molecule.specs.Record.{bonds}
 use Rattle.molecule.proofs.Accepted.{accepted-formed}
-use Rattle.canonize.specs.Strings.{collapse}
-use Rattle.canonize.specs.Label.{label}
-use Rattle.canonize.specs.Buffers.{slot, Slots, Wrote}
-use Rattle.canonize.specs.Words.{outer, far, stringsAt, centres}
+use Rattle.canonize.specs.Buffers.{slot, Slots}
 use Rattle.canonize.proofs.Laws.{label-fits}
-use Rattle.canonize.proofs.Writing.{wrote-length}
 use Rattle.canonize.proofs.Labelling.{Labelling, labelling-start, labelling-own, labelling-fits, labelling-less, labelling-one, labelling-two, labelling-round}
 use Rattle.canonize.proofs.label_into.Statement.{statement}
 use Rattle.canonize.proofs.label_into.Tie as tie

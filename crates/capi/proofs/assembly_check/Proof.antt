@@ -1,6 +1,6 @@
 -- `capi::assembly_check` meets its contract: each arm is check's answer as a number and a place. Assumes nothing.
 use borrow.Author.Needs.{needs}
-use mathlib.Core.Path.{_≡_, sym, ap, _∙_}
+use mathlib.Core.Path.{sym, ap, _∙_}
 use Rattle.molecule.specs.Check.{number, place}
 use Rattle.molecule.specs.Verdict.{answerOf}
 use Rattle.capi.proofs.assembly_check.Statement.{statement}

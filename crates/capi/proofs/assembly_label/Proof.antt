@@ -1,6 +1,6 @@
 -- `capi::assembly_label` meets its contract: each arm is label's answer as a number and a value. Assumes nothing.
 use borrow.Author.Needs.{needs}
-use mathlib.Core.Path.{_≡_, sym, ap, _∙_}
+use mathlib.Core.Path.{sym, ap, _∙_}
 use Rattle.canonize.specs.Answer.{number, value, answerOf}
 use Rattle.capi.proofs.assembly_label.Statement.{statement}
 use Rattle.capi.proofs.assembly_label.Tie as tie

@@ -1,6 +1,6 @@
 -- `capi::assembly_matches` meets its contract: each arm is count's answer as a number and a value. Assumes nothing.
 use borrow.Author.Needs.{needs}
-use mathlib.Core.Path.{_≡_, sym, ap, _∙_}
+use mathlib.Core.Path.{sym, ap, _∙_}
 use Rattle.tabulate.specs.Counted.{number, value, answerOf}
 use Rattle.capi.proofs.assembly_matches.Statement.{statement}
 use Rattle.capi.proofs.assembly_matches.Tie as tie

@@ -1,12 +1,11 @@
 -- `molecule::check` meets its contract: each way out is the row whose test led there. Assumes nothing.
-use mathlib.Core.Path.{_≡_, sym, ap, _∙_}
+use mathlib.Core.Path.{sym, _∙_}
 use Prim.Native.Nat.{_≤_}
 use native.Mathlib.Omega.{arith}
-use lib.ListN.{length}
-use Rattle.molecule.specs.Lists.{Bytes, first}
+use Rattle.molecule.specs.Lists.{first}
 use Rattle.molecule.specs.Record.{atoms, bonds}
-use Rattle.molecule.specs.Check.{refused, accepted, badElement, badCode, badEnds, unreached}
-use Rattle.molecule.specs.Tree.{Sized, Formed}
+use Rattle.molecule.specs.Check.{badElement, badCode, badEnds, unreached}
+use Rattle.molecule.specs.Tree.{Sized}
 use Rattle.molecule.proofs.RowLaws.{rowAt-hit, rowAt-pass, short, wrong-length, no-bond, many-bonds, wrong-atoms, past-2, past-3, past-4, past-5, formed}
 use borrow.Author.Needs.{needs}
 use Rattle.molecule.proofs.check.Statement.{statement}

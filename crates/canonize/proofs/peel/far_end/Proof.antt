@@ -1,9 +1,7 @@
 -- `canonize::peel::far_end` meets its contract. Assumes nothing.
 use borrow.Author.Needs.{needs}
 use mathlib.Core.Path.{_≡_, sym, ap, _∙_}
-use mathlib.Core.Bool.{true, false}
-use Prim.Native.Nat.{_<_}
-use Rattle.molecule.specs.Record.{endA, endB}
+use Rattle.molecule.specs.Record.{endA}
 use Rattle.molecule.proofs.Accepted.{end-few}
 use Rattle.canonize.specs.Words.{isTip, far}
 use Rattle.canonize.proofs.peel.far_end.Statement.{statement}

@@ -1,12 +1,12 @@
 -- `canonize::peel::hand_over` meets its contract: the string is put together on the desk, and stored. Assumes nothing.
 use borrow.Author.Needs.{needs}
-use mathlib.Core.Path.{_≡_, refl, sym, ap, _∙_}
-use mathlib.Core.List.{[], _∷_, _++_}
-use Prim.Native.Nat.{ℕ, _+_, _-_, _≤_}
+use mathlib.Core.Path.{_≡_, ap}
+use mathlib.Core.List.{_∷_}
+use Prim.Native.Nat.{_-_}
 use native.Mathlib.Omega.{arith}
-use lib.ListN.{length, set, take, drop, length-set}
+use lib.ListN.{length, take, drop, length-set}
 use Rattle.canonize.specs.Strings.{collapse}
-use Rattle.canonize.specs.Buffers.{slot, written, Wrote}
+use Rattle.canonize.specs.Buffers.{slot, Wrote}
 use Rattle.canonize.specs.Words.{stringsAt, handed}
 use Rattle.canonize.proofs.Writing.{written-read, wrote-byte, wrote-length, wrote-then}
 use Rattle.canonize.proofs.peel.hand_over.Statement.{statement}

@@ -1,17 +1,15 @@
 -- `canonize::peel::put_atom` meets its contract. Assumes nothing.
 use borrow.Author.Needs.{needs}
-use mathlib.Core.Path.{_≡_, refl, sym, ap, ap₂, _∙_}
+use mathlib.Core.Path.{_≡_, ap}
 use mathlib.Core.List.{List, [], _∷_, map}
-use Prim.Native.Nat.{ℕ, _<_}
+use Prim.Native.Nat.{_<_}
 use native.Mathlib.Omega.{arith}
 use lib.ListN.{length}
-use lib.Bits.{bitAnd}
-use Rattle.bitset.specs.Bits.{members, diff}
+use Rattle.bitset.specs.Bits.{members}
 use Rattle.molecule.specs.Lists.{Bytes}
-use Rattle.molecule.specs.Touch.{bondsAt}
 use Rattle.molecule.proofs.Words.{atoms-at}
 use Rattle.canonize.specs.Strings.{collapse}
-use Rattle.canonize.specs.Buffers.{slot, Wrote}
+use Rattle.canonize.specs.Buffers.{slot}
 use Rattle.canonize.specs.Words.{received, stringsAt}
 use Rattle.canonize.proofs.peel.put_atom.Statement.{statement}
 use Rattle.canonize.proofs.peel.put_atom.Tie as tie

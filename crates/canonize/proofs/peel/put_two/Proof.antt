@@ -1,13 +1,11 @@
 -- `canonize::peel::put_two` meets its contract. Assumes nothing.
 use borrow.Author.Needs.{needs}
-use mathlib.Core.Path.{_≡_, sym, ap, _∙_}
-use mathlib.Core.List.{[], _∷_, _++_}
-use mathlib.Core.Bool.{true, false}
+use mathlib.Core.Path.{sym, ap, _∙_}
+use mathlib.Core.List.{_++_}
 use Prim.Native.Nat.{_+_, _≤_}
 use native.Mathlib.Omega.{arith}
 use lib.ListN.{length, length-append}
-use Rattle.molecule.specs.Lists.{Bytes}
-use Rattle.canonize.specs.Strings.{lexLe, wrap, collapse}
+use Rattle.canonize.specs.Strings.{wrap}
 use Rattle.canonize.specs.Buffers.{Wrote}
 use Rattle.canonize.proofs.Wrapping.{collapse-two, collapse-two-swapped}
 use Rattle.canonize.proofs.Writing.{wrote-length, wrote-then}

@@ -1,11 +1,11 @@
 -- `canonize::peel::round` meets its contract: the bonds of left are passed, the lowest first. Assumes nothing.
 use borrow.Author.Needs.{needs}
 use mathlib.Core.Path.{_≡_, refl, sym, ap, _∙_}
-use mathlib.Core.Bool.{true, false, _||_}
-use Prim.Native.Nat.{ℕ, _^_, _≤_, _<_}
+use mathlib.Core.Bool.{true, false}
+use Prim.Native.Nat.{ℕ, _^_, _<_}
 use native.Mathlib.Omega.{arith}
 use lib.ListN.{length}
-use Rattle.bitset.specs.Bits.{bit, size, diff}
+use Rattle.bitset.specs.Bits.{size, diff}
 use Rattle.bitset.proofs.Bools.{or-left, or-right}
 use Rattle.bitset.proofs.Laws.{member-lt}
 use Rattle.bitset.proofs.Members.{sub-in}

@@ -1,6 +1,5 @@
 -- Filling keeps the lengths of the tables.
 use borrow.Author.Needs.{needs}
-use mathlib.Core.Path.{_≡_}
 use Rattle.lines.proofs.matches_line.count_over.Statement.{statement}
 use Rattle.lines.proofs.matches_line.count_over.Tie as tie
 

@@ -1,5 +1,4 @@
 -- Filling keeps the lengths of the trail and the tables.
-use mathlib.Core.Path.{_≡_}
 use borrow.Author.Needs.{needs}
 use Rattle.lines.proofs.score_line.score_over.Statement.{statement}
 use Rattle.lines.proofs.score_line.score_over.Tie as tie

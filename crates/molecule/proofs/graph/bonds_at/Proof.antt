@@ -1,9 +1,8 @@
 -- `molecule::graph::bonds_at` meets its contract: after i turns each atom has those of the first i bonds that are at it. Assumes nothing.
 use borrow.Author.Needs.{needs}
-use mathlib.Core.Path.{_≡_, refl, ap, sym, subst, _∙_}
-use Prim.Native.Nat.{_+_, _≤_, _<_, _-_}
+use mathlib.Core.Path.{_≡_, refl, ap, _∙_}
+use Prim.Native.Nat.{_≤_, _<_, _-_}
 use native.Mathlib.Omega.{arith}
-use lib.ListN.{length}
 use Rattle.bitset.specs.Bits.{setOf}
 use Rattle.molecule.specs.Record.{bonds}
 use Rattle.molecule.specs.Touch.{isEnd, bondsAt}

@@ -6,7 +6,6 @@ use Prim.Native.Nat.{ℕ, _+_, _^_, _≤_, _<_}
 use native.Mathlib.Omega.{arith}
 use lib.ListN.{length, getD}
 use Rattle.bitset.specs.Bits.{size}
-use Rattle.bitset.proofs.Laws.{size-le}
 use Rattle.molecule.specs.Touch.{parts}
 use Rattle.molecule.proofs.Growing.{lead, rest, rest-less, parts-step, parts-none}
 use Rattle.molecule.proofs.Lists.{Front, front-start, front-put, front-length}

@@ -1,5 +1,4 @@
 -- `molecule::graph::edge_neighbors` meets its contract. Assumes nothing.
-use mathlib.Core.Path.{_≡_, ap, _∙_}
 use Prim.Native.Nat.{_<_}
 use native.Mathlib.Omega.{arith}
 use Rattle.molecule.specs.Touch.{touching}

@@ -1,11 +1,10 @@
 -- `molecule::graph::reach` meets its contract: a bond that waits is taken at each turn. Assumes nothing.
 use borrow.Author.Needs.{needs}
-use mathlib.Core.Path.{_≡_, sym, ap, _∙_}
+use mathlib.Core.Path.{_≡_, ap, _∙_}
 use mathlib.Core.List.{List}
 use Prim.Native.Nat.{ℕ, _+_, _-_}
 use native.Mathlib.Omega.{arith}
 use lib.ListN.{getD}
-use lib.Bits.{bitOr}
 use Rattle.bitset.specs.Bits.{size}
 use Rattle.bitset.proofs.Laws.{size-le}
 use Rattle.molecule.proofs.Waiting.{Taking, taking-start, taking-step, taking-more, taking-done}

@@ -1,9 +1,7 @@
 -- `molecule::graph::touching_from` meets its contract. Assumes nothing.
-use borrow.Author.Needs.{needs}
-use mathlib.Core.Path.{_≡_, refl, ap, _∙_}
+use mathlib.Core.Path.{_≡_, refl}
 use Prim.Native.Nat.{_≤_, _-_}
 use native.Mathlib.Omega.{arith}
-use lib.ListN.{length}
 use Rattle.molecule.specs.Record.{bonds}
 use Rattle.molecule.proofs.Lists.{zeros-at}
 use Rattle.molecule.proofs.Words.{BondsUpTo, bonds-next, bonds-are}

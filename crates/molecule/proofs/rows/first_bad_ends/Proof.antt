@@ -5,7 +5,7 @@ use Prim.Native.Nat.{_-_}
 use native.Mathlib.Omega.{arith}
 use Rattle.molecule.specs.Lists.{first}
 use Rattle.molecule.specs.Record.{atoms, bonds}
-use Rattle.molecule.specs.Check.{wrongEnds, badEnds}
+use Rattle.molecule.specs.Check.{badEnds}
 use Rattle.molecule.proofs.Scans.{Scanned, scan-start, scan-on, scan-found, scan-none}
 use Rattle.molecule.proofs.rows.first_bad_ends.Statement.{statement}
 use Rattle.molecule.proofs.rows.first_bad_ends.Tie as tie

@@ -1,21 +1,19 @@
 -- `molecule::rows::first_unreached` meets its contract: atom 0 is reached, and any other just where one of its bonds is. Assumes nothing.
 use borrow.Author.Needs.{needs}
-use borrow.Author.Tests.{eq-eqb, ne-eqb, eqb-true, eqb-false}
-use mathlib.Core.Path.{_≡_, refl, sym, ap, _∙_}
+use borrow.Author.Tests.{ne-eqb, eqb-false}
+use mathlib.Core.Path.{_≡_, sym, ap, _∙_}
 use mathlib.Core.Bool.{true, false, not}
-use mathlib.Core.List.{List}
-use mathlib.Core.Logic.{_⊎_, inl, inr, _≢_, ⊎-elim}
-use Prim.Native.Nat.{ℕ, _-_, _^_, _≤_, _<_}
+use mathlib.Core.Logic.{_⊎_, inl, inr, _≢_}
+use Prim.Native.Nat.{ℕ, _-_, _^_, _≤_}
 use native.Mathlib.Omega.{arith}
 use lib.Bits.{bitAnd}
-use lib.ListN.{getD}
 use lib.Pow.{pow-pos}
 use Rattle.bitset.specs.Bits.{bit, has, isDisjoint}
 use Rattle.bitset.proofs.Bools.{two}
 use Rattle.bitset.proofs.Members.{in-or-out}
 use Rattle.molecule.specs.Lists.{Bytes, first}
 use Rattle.molecule.specs.Record.{atoms, bonds, allBonds}
-use Rattle.molecule.specs.Touch.{reach, bondsAt, touching, bondsAtWords}
+use Rattle.molecule.specs.Touch.{reach, bondsAt}
 use Rattle.molecule.specs.Check.{reached, unreached}
 use Rattle.molecule.specs.Tree.{Formed}
 use Rattle.molecule.proofs.Scans.{Scanned, scan-start, scan-on, scan-found, scan-none}
