@@ -88,41 +88,11 @@ hash-below h (a ∷ x) l = hash-below ((h * 257 + a) % 36028797018963913) x (mod
 pub hash-lt : (x : Bytes) → hash x < 36028797018963913
 hash-lt x = hash-below 1 x (omega arith)
 
--- the hashes of the first i pieces are written, and total is their sum
-pub record Hashing (r : Bytes) (pieces hashes : List ℕ) (total i : ℕ) : Type 0 where
-  pub within : i ≤ length pieces
-  pub is : (j : ℕ) → j < i → getD hashes j 0 ≡ hash (label r (getD pieces j 0))
-  pub sum : total + hashSum (drop i (map (label r) pieces)) ≡ hashSum (map (label r) pieces)
-  pub small : total ≤ i * 36028797018963913
-
-pub hashing-start : (r : Bytes) (pieces hashes : List ℕ) → Hashing r pieces hashes 0 0
-hashing-start r pieces hashes = record { within = omega arith; is = λ j h. absurd (omega arith); sum = omega arith; small = omega arith }
-
-label-next : (r : Bytes) (pieces : List ℕ) (i : ℕ) → i < length pieces → drop i (map (label r) pieces) ≡ label r (getD pieces i 0) ∷ drop (suc i) (map (label r) pieces)
+-- the next label of what is left
+pub label-next : (r : Bytes) (pieces : List ℕ) (i : ℕ) → i < length pieces → drop i (map (label r) pieces) ≡ label r (getD pieces i 0) ∷ drop (suc i) (map (label r) pieces)
 label-next r pieces i h =
     drop-cons (map (label r) pieces) i (label r 0) (omega (arith, length-map pieces (label r)))
     ∙ ap (λ (z : Bytes). z ∷ drop (suc i) (map (label r) pieces)) (List·getD-map (label r) pieces i 0)
-
-module _ (r : Bytes) (pieces hashes : List ℕ) (total i : ℕ) (w : Hashing r pieces hashes total i) where
-  pub hashing-next : i < length pieces → i < length hashes → (h : ℕ) → h ≡ hash (label r (getD pieces i 0)) → Hashing r pieces (set hashes i h) (total + h) (i + 1)
-  unfolding hashSum
-  hashing-next l k h e = record {
-    within = omega arith;
-    is = λ j g. go j g (ℕ-discrete j i);
-    sum = rw add-one (omega (arith, w .sum, ap hashSum (label-next r pieces i l), e));
-    small = omega (arith, w .small, hash-lt (label r (getD pieces i 0)), e);
-  }
-    where
-      go : (j : ℕ) → j < i + 1 → Dec (j ≡ i) → getD (set hashes i h) j 0 ≡ hash (label r (getD pieces j 0))
-      go j g (yes q) = rw q (getD-set-same hashes i h 0 k ∙ e)
-      go j g (no q) = getD-set-other hashes i j h 0 q ∙ w .is j (omega arith)
-
-  pub hashing-done : length pieces ≤ length hashes → length pieces ≤ i → Hashed r pieces hashes × (total ≡ hashSum (map (label r) pieces))
-  unfolding hashSum
-  hashing-done m l = (
-    record { many = m; is = λ j h. w .is j (omega arith) },
-    omega (arith, w .sum, ap hashSum (drop-of-length-le (map (label r) pieces) {i = i} (omega (arith, length-map pieces (label r))))),
-  )
 
 -- ---- what is not used
 

@@ -25,7 +25,8 @@ use Rattle.recurse.specs.declared.visit.Outcome.{Outcome}
 use Rattle.recurse.specs.declared.visit.Gate.{Gate}
 use Rattle.recurse.specs.declared.visit.Gate.the-variants.{Goes, Stops, Ends}
 use Rattle.state.specs.Views.{stateOf}
-use Rattle.memoize.specs.Stored.{Lent, Stored}
+use Rattle.desk.specs.Cached.{Lent}
+use Rattle.memoize.specs.Stored.{Stored}
 
 -- the setting that the code's setting is
 abbrev pub settingOf : Setting → settings.Setting
