@@ -1,29 +1,28 @@
 -- Keys: two sorted lists of labels are equal where one list is a permutation of the other, and taking labels out one at a time decides that. Assumes nothing.
-use mathlib.Core.Path.{_≡_, refl, sym, ap, ap₂, subst, _∙_}
+use mathlib.Core.Path.{_≡_, refl, sym, ap, ap₂, _∙_}
 use mathlib.Core.Logic.{_≢_, _⊎_, inl, inr}
-use mathlib.Core.Bool.{Bool, true, false, false≢true}
-use mathlib.Core.List.{List, [], _∷_, _++_, map, List·Permᴰ as Perm, List·Permᴰ·nil as p-nil, List·Permᴰ·cons as p-cons, List·Permᴰ·swap as p-swap, List·Permᴰ·trans as p-trans, Permᴰ·refl as perm-refl, Permᴰ·symm as perm-sym}
-use Prim.Native.Nat.{ℕ, zero, suc, _+_, _-_, _*_, _%_, _^_, _≤_, _<_}
+use mathlib.Core.Bool.{true, false, false≢true}
+use mathlib.Core.List.{List, [], _∷_, _++_, map, List·Permᴰ as Perm, List·Permᴰ·nil as p-nil, List·Permᴰ·cons as p-cons, List·Permᴰ·swap as p-swap, List·Permᴰ·trans as p-trans, Permᴰ·symm as perm-sym}
+use Prim.Native.Nat.{ℕ, zero, suc, _+_, _*_, _%_, _^_, _≤_, _<_}
 use native.Mathlib.Nat.{mod-lt}
 use native.Mathlib.Numerals.{add-one}
 use native.Mathlib.Decide.{ℕ-discrete}
 use native.Mathlib.Omega.{arith}
 use lib.Bits.{bitOr}
-use lib.Dec.{eqb}
-use lib.ListN.{length, getD, set, take, drop, length-append, length-drop, length-map, drop-of-length-le, List·getD-map}
-use lib.Seq.{take-suc, drop-cons, getD-drop, getD-set-same, getD-set-other}
+use lib.ListN.{length, getD, set, take, drop, length-drop, length-map, drop-of-length-le, List·getD-map}
+use lib.Seq.{take-suc, drop-cons, getD-drop}
 use borrow.Author.Tests.{eq-eqb, ne-eqb, eqb-true, eqb-false}
 use Rattle.bitset.specs.Bits.{bit, has}
 use Rattle.bitset.proofs.Bools.{two}
 use Rattle.bitset.proofs.Laws.{bit-or, bit-one, bit-other, bit-empty, bit-le}
 use Rattle.bitset.proofs.Members.{in-or-out, or-left-in, or-right-in}
-use Rattle.molecule.specs.Lists.{Bytes, pick}
+use Rattle.molecule.specs.Lists.{Bytes}
 use Rattle.canonize.specs.Strings.{sort, same, hash, hashFrom}
 use Rattle.canonize.specs.Label.{label}
 use Rattle.canonize.proofs.Comparing.{same-refl, same-is}
-use Rattle.canonize.proofs.Sorting.{Out, first, later, out-perm, perm-out, perm-cons, perm-nil, sort-perm, sort-canonical, perm-of-sort, not-both}
+use Rattle.canonize.proofs.Sorting.{Out, first, later, out-perm, perm-out, perm-cons, sort-perm, sort-canonical, perm-of-sort}
 use Rattle.search.specs.Memo.{sameKey}
-use Rattle.memoize.specs.Stored.{Hashed, Block, labelAt, Picked, hashSum}
+use Rattle.memoize.specs.Stored.{Block, labelAt, Picked, hashSum}
 
 -- ---- equal keys
 

@@ -1,8 +1,8 @@
 -- `memoize::pick` meets its contract: none that was passed is free and has the label. Assumes nothing.
 use borrow.Author.Needs.{scaled-fits}
-use mathlib.Core.Path.{_≡_, sym, ap, _∙_}
+use mathlib.Core.Path.{sym, ap, _∙_}
 use mathlib.Core.Bool.{false≢true}
-use Prim.Native.Nat.{ℕ, _+_, _-_, _≤_, _<_}
+use Prim.Native.Nat.{_+_, _-_, _≤_}
 use native.Mathlib.Omega.{arith}
 use lib.ListN.{length, getD}
 use Rattle.canonize.specs.Label.{label}

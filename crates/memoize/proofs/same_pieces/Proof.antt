@@ -1,10 +1,10 @@
 -- `memoize::same_pieces` meets its contract: all labels match where what is left of them matches what is not used. Assumes nothing.
 use borrow.Author.Needs.{scaled-fits}
-use mathlib.Core.Path.{_≡_, sym, _∙_}
+use mathlib.Core.Path.{_∙_}
 use mathlib.Core.List.{map}
-use Prim.Native.Nat.{ℕ, _+_, _-_, _≤_, _<_, _^_}
+use Prim.Native.Nat.{_-_}
 use native.Mathlib.Omega.{arith}
-use lib.ListN.{length, getD, take, drop}
+use lib.ListN.{length, take, drop}
 use Rattle.canonize.specs.Label.{label}
 use Rattle.memoize.specs.Stored.{labelAt}
 use Rattle.memoize.proofs.Keeping.{Keeping, keeping-start, keeping-next}

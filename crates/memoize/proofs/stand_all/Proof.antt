@@ -1,7 +1,7 @@
 -- `memoize::stand_all` meets its contract: the pieces passed are done, and the sum of what is left. Assumes nothing.
 use borrow.Author.Needs.{scaled-fits}
 use mathlib.Core.Path.{_≡_, _∙_}
-use Prim.Native.Nat.{_+_, _-_, _*_, _≤_, _<_}
+use Prim.Native.Nat.{_-_}
 use native.Mathlib.Omega.{arith}
 use lib.ListN.{length, getD, length-set}
 use Rattle.canonize.specs.Label.{label}
