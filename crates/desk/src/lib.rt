@@ -17,11 +17,11 @@ pub struct Known {
     pub set: u64,
 }
 
-// The slot of x.
+// The slot of x: modulo a prime that spreads the sets of a chain.
 fn slot(x: u64) -> usize
     ensures { λ r. ⌜ r < 1024 ⌝ }
 {
-    (x % 4_294_967_291 % 1_024) as usize
+    (x % 971) as usize
 }
 
 // The word of a hash, after the slots.

@@ -49,23 +49,15 @@ fn pick(
         if bitset::contains(used, j as u32) {
             continue;
         }
-        if memo[base + j] == x {
+        let y = memo[base + j];
+        let g = memo[base + 32 + j];
+        if y == x {
             return j;
         }
-        if memo[base + 32 + j] != h {
+        if g != h {
             continue;
         }
-        if desk::equal_labels(
-            bytes,
-            at,
-            x,
-            memo[base + j],
-            arena,
-            lengths,
-            scratch,
-            own,
-            other,
-        ) {
+        if desk::equal_labels(bytes, at, x, y, arena, lengths, scratch, own, other) {
             return j;
         }
     }

@@ -34,7 +34,7 @@ returns : tie.Need-returns
 returns c = let s = c .before .before .before .before .before .before .before .before .before .before in (stands-self (s .pre .1) (s .pre .2), (cached-keep (s .args .bytes .now) (s .args .desk .now) (s .pre .0 .cached) (c .before .before .place .result) (c .before .before .place .ensures) (s .args .x) (s .pre .1) (s .pre .2), s .pre .0 .slots))
 
 is-label-requires : tie.Need-is-label-requires
-is-label-requires c κs = let s = c .before .before .before .before .before .before .before .before .before .before .before .before .before .before in let k = s .pre .0 .cached .kept (c .before .before .before .before .before .before .place .result) (c .before .before .before .before .before .before .place .ensures) (c .before .before .before .before .if1 .left) in (s .pre .0 .formed, s .pre .0 .touch, k .0, k .1, s .pre .0 .slots, s .pre .0 .desks, s .pre .0 .outs)
+is-label-requires c κs = let k = c .before .before .before .before .before .before .before .before .before .before .before .before .before .before .pre .0 .cached .kept (c .before .before .before .before .before .before .place .result) (c .before .before .before .before .before .before .place .ensures) (c .before .before .before .before .if1 .left) in search needs
 
 same-length-2 : tie.Need-same-length-2
 same-length-2 c = search needs

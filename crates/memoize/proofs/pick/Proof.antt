@@ -21,7 +21,7 @@ abbrev μ-loop : tie.MeasureT-loop
 μ-loop bytes at memo base count used x h arena₀ lengths₀ scratch₀ own₀ other₀ next₀ arena lengths scratch own other next = count - next
 
 loop-holds : tie.Need-loop-holds Inv-loop μ-loop
-loop-holds c = let s = c .before .before .before .before .before .before .before in (omega arith, keeping-start (s .pre .0), passed-start (labelAt (s .args .bytes .now) (s .args .memo .now) (s .args .base)) (s .args .used) (label (s .args .bytes .now) (s .args .x)))
+loop-holds c = let a = c .before .before .before .before .before .before .before .args in (omega arith, keeping-start (c .before .before .before .before .before .before .before .pre .0), passed-start (labelAt (a .bytes .now) (a .memo .now) (a .base)) (a .used) (label (a .bytes .now) (a .x)))
 
 add-next : tie.Need-add-next Inv-loop μ-loop
 add-next c = omega (arith, c .before .before .before .before .before .before .before .before .before .pre .1 .few, c .loop-test .taken)
@@ -38,47 +38,47 @@ loop-less c = omega (arith, c .before .before .loop-test .taken)
 loop-again : tie.Need-loop-again Inv-loop μ-loop
 loop-again c = (omega (arith, c .before .before .loop-test .taken), c .before .before .before .loop .inv .1, passed-used (c .before .before .before .loop .inv .2) (sym (c .before .contains .ensures) ∙ c .if1 .taken))
 
-add-if2 : tie.Need-add-if2 Inv-loop μ-loop
-add-if2 c = omega (arith, c .before .before .before .before .before .before .before .before .before .before .before .pre .1 .wide, c .before .before .before .before .before .before .before .before .before .before .before .pre .1 .few, c .before .before .loop-test .taken, c .before .before .before .before .before .before .before .before .before .before .before .good .1 .1 .0 .0)
+add-y : tie.Need-add-y Inv-loop μ-loop
+add-y c = omega (arith, c .before .before .before .before .before .before .before .before .before .before .before .pre .1 .wide, c .before .before .before .before .before .before .before .before .before .before .before .pre .1 .few, c .before .before .loop-test .taken, c .before .before .before .before .before .before .before .before .before .before .before .good .1 .1 .0 .0)
 
-mul-if2 : tie.Need-mul-if2 Inv-loop μ-loop
-mul-if2 c = scaled-fits (c .before .before .before .before .before .before .before .before .before .before .before .args .base + c .before .before .before .loop .next) (length (c .before .before .before .before .before .before .before .before .before .before .before .args .memo .now)) 8 (omega (arith, c .before .before .before .before .before .before .before .before .before .before .before .pre .1 .wide, c .before .before .before .before .before .before .before .before .before .before .before .pre .1 .few, c .before .before .loop-test .taken)) (c .before .before .before .before .before .before .before .before .before .before .before .good .1 .1 .0 .1)
+mul-y : tie.Need-mul-y Inv-loop μ-loop
+mul-y c = scaled-fits (c .before .before .before .before .before .before .before .before .before .before .before .args .base + c .before .before .before .loop .next) (length (c .before .before .before .before .before .before .before .before .before .before .before .args .memo .now)) 8 (omega (arith, c .before .before .before .before .before .before .before .before .before .before .before .pre .1 .wide, c .before .before .before .before .before .before .before .before .before .before .before .pre .1 .few, c .before .before .loop-test .taken)) (c .before .before .before .before .before .before .before .before .before .before .before .good .1 .1 .0 .1)
 
-shared-slice-read-if2 : tie.Need-shared-slice-read-if2 Inv-loop μ-loop
-shared-slice-read-if2 c = omega (arith, c .before .before .before .before .before .before .before .before .before .before .before .before .pre .1 .wide, c .before .before .before .before .before .before .before .before .before .before .before .before .pre .1 .few, c .before .before .before .loop-test .taken, c .before .before .before .before .before .before .before .before .before .before .before .before .good .1 .1 .0 .0)
+shared-slice-read-y : tie.Need-shared-slice-read-y Inv-loop μ-loop
+shared-slice-read-y c = omega (arith, c .before .before .before .before .before .before .before .before .before .before .before .before .pre .1 .wide, c .before .before .before .before .before .before .before .before .before .before .before .before .pre .1 .few, c .before .before .before .loop-test .taken, c .before .before .before .before .before .before .before .before .before .before .before .before .good .1 .1 .0 .0)
+
+add-g : tie.Need-add-g Inv-loop μ-loop
+add-g c = omega (arith, c .before .before .before .before .before .before .before .before .before .before .before .before .pre .1 .wide, c .before .before .before .before .before .before .before .before .before .before .before .before .pre .1 .few, c .before .before .before .loop-test .taken, c .before .before .before .before .before .before .before .before .before .before .before .before .good .1 .1 .0 .0)
+
+add-g-2 : tie.Need-add-g-2 Inv-loop μ-loop
+add-g-2 c = omega (arith, c .before .before .before .before .before .before .before .before .before .before .before .before .pre .1 .wide, c .before .before .before .before .before .before .before .before .before .before .before .before .pre .1 .few, c .before .before .before .loop-test .taken, c .before .before .before .before .before .before .before .before .before .before .before .before .good .1 .1 .0 .0)
+
+mul-g : tie.Need-mul-g Inv-loop μ-loop
+mul-g c = scaled-fits (c .before .before .before .before .before .before .before .before .before .before .before .before .args .base + 32 + c .before .before .before .before .loop .next) (length (c .before .before .before .before .before .before .before .before .before .before .before .before .args .memo .now)) 8 (omega (arith, c .before .before .before .before .before .before .before .before .before .before .before .before .pre .1 .wide, c .before .before .before .before .before .before .before .before .before .before .before .before .pre .1 .few, c .before .before .before .loop-test .taken)) (c .before .before .before .before .before .before .before .before .before .before .before .before .good .1 .1 .0 .1)
+
+shared-slice-read-g : tie.Need-shared-slice-read-g Inv-loop μ-loop
+shared-slice-read-g c = omega (arith, c .before .before .before .before .before .before .before .before .before .before .before .before .before .pre .1 .wide, c .before .before .before .before .before .before .before .before .before .before .before .before .before .pre .1 .few, c .before .before .before .before .loop-test .taken, c .before .before .before .before .before .before .before .before .before .before .before .before .before .good .1 .1 .0 .0)
 
 same-length : tie.Need-same-length Inv-loop μ-loop
-same-length c = c .before .before .before .before .before .loop .inv .1 .arena-long
+same-length c = c .before .before .before .before .before .before .loop .inv .1 .arena-long
 
 same-length-2 : tie.Need-same-length-2 Inv-loop μ-loop
-same-length-2 c = c .before .before .before .before .before .loop .inv .1 .lengths-long
+same-length-2 c = c .before .before .before .before .before .before .loop .inv .1 .lengths-long
 
 same-length-3 : tie.Need-same-length-3 Inv-loop μ-loop
-same-length-3 c = c .before .before .before .before .before .loop .inv .1 .scratch-long
+same-length-3 c = c .before .before .before .before .before .before .loop .inv .1 .scratch-long
 
 same-length-4 : tie.Need-same-length-4 Inv-loop μ-loop
-same-length-4 c = c .before .before .before .before .before .loop .inv .1 .own-long
+same-length-4 c = c .before .before .before .before .before .before .loop .inv .1 .own-long
 
 same-length-5 : tie.Need-same-length-5 Inv-loop μ-loop
-same-length-5 c = c .before .before .before .before .before .loop .inv .1 .other-long
+same-length-5 c = c .before .before .before .before .before .before .loop .inv .1 .other-long
 
 returns : tie.Need-returns Inv-loop μ-loop
 unfolding labelAt
 returns c =
-    let a = c .before .before .before .before .before .before .before .before .before .before .before .before .before .args in
-    (picked-hit (labelAt (a .bytes .now) (a .memo .now) (a .base)) (a .count) (a .used) (label (a .bytes .now) (a .x)) (c .before .before .before .before .before .loop .next) (c .before .before .before .before .loop-test .taken) (sym (c .before .before .before .contains .ensures) ∙ c .before .before .if1 .left) (ap (label (a .bytes .now)) (c .if2 .taken)), c .before .before .before .before .before .loop .inv .1 .lent .slots)
-
-add-if3 : tie.Need-add-if3 Inv-loop μ-loop
-add-if3 c = omega (arith, c .before .before .before .before .before .before .before .before .before .before .before .before .before .pre .1 .wide, c .before .before .before .before .before .before .before .before .before .before .before .before .before .pre .1 .few, c .before .before .before .before .loop-test .taken, c .before .before .before .before .before .before .before .before .before .before .before .before .before .good .1 .1 .0 .0)
-
-add-if3-2 : tie.Need-add-if3-2 Inv-loop μ-loop
-add-if3-2 c = omega (arith, c .before .before .before .before .before .before .before .before .before .before .before .before .before .pre .1 .wide, c .before .before .before .before .before .before .before .before .before .before .before .before .before .pre .1 .few, c .before .before .before .before .loop-test .taken, c .before .before .before .before .before .before .before .before .before .before .before .before .before .good .1 .1 .0 .0)
-
-mul-if3 : tie.Need-mul-if3 Inv-loop μ-loop
-mul-if3 c = scaled-fits (c .before .before .before .before .before .before .before .before .before .before .before .before .before .args .base + 32 + c .before .before .before .before .before .loop .next) (length (c .before .before .before .before .before .before .before .before .before .before .before .before .before .args .memo .now)) 8 (omega (arith, c .before .before .before .before .before .before .before .before .before .before .before .before .before .pre .1 .wide, c .before .before .before .before .before .before .before .before .before .before .before .before .before .pre .1 .few, c .before .before .before .before .loop-test .taken)) (c .before .before .before .before .before .before .before .before .before .before .before .before .before .good .1 .1 .0 .1)
-
-shared-slice-read-if3 : tie.Need-shared-slice-read-if3 Inv-loop μ-loop
-shared-slice-read-if3 c = omega (arith, c .before .before .before .before .before .before .before .before .before .before .before .before .before .before .pre .1 .wide, c .before .before .before .before .before .before .before .before .before .before .before .before .before .before .pre .1 .few, c .before .before .before .before .before .loop-test .taken, c .before .before .before .before .before .before .before .before .before .before .before .before .before .before .good .1 .1 .0 .0)
+    let a = c .before .before .before .before .before .before .before .before .before .before .before .before .before .before .args in
+    (picked-hit (labelAt (a .bytes .now) (a .memo .now) (a .base)) (a .count) (a .used) (label (a .bytes .now) (a .x)) (c .before .before .before .before .before .before .loop .next) (c .before .before .before .before .before .loop-test .taken) (sym (c .before .before .before .before .contains .ensures) ∙ c .before .before .before .if1 .left) (ap (label (a .bytes .now)) (c .if2 .taken)), c .before .before .before .before .before .before .loop .inv .1 .lent .slots)
 
 loop-less-2 : tie.Need-loop-less-2 Inv-loop μ-loop
 loop-less-2 c = omega (arith, c .before .before .before .before .before .before .loop-test .taken)
@@ -86,56 +86,47 @@ loop-less-2 c = omega (arith, c .before .before .before .before .before .before 
 loop-again-2 : tie.Need-loop-again-2 Inv-loop μ-loop
 loop-again-2 c = (omega (arith, c .before .before .before .before .before .before .loop-test .taken), c .before .before .before .before .before .before .before .loop .inv .1, passed-differ (c .before .before .before .before .before .before .before .loop .inv .2) (other-hash (c .before .before .before .before .before .before .before .before .before .before .before .before .before .before .before .pre .1) (c .before .before .before .before .before .before .before .loop .next) (c .before .before .before .before .before .before .before .before .before .before .before .before .before .before .before .args .x) (c .before .before .before .before .before .before .before .before .before .before .before .before .before .before .before .args .h) (c .before .before .before .before .before .before .loop-test .taken) (c .before .before .before .before .before .before .before .before .before .before .before .before .before .before .before .pre .4) (c .if3 .taken)))
 
-add-equal-labels : tie.Need-add-equal-labels Inv-loop μ-loop
-add-equal-labels c = omega (arith, c .before .before .before .before .before .before .before .before .before .before .before .before .before .before .before .pre .1 .wide, c .before .before .before .before .before .before .before .before .before .before .before .before .before .before .before .pre .1 .few, c .before .before .before .before .before .before .loop-test .taken, c .before .before .before .before .before .before .before .before .before .before .before .before .before .before .before .good .1 .1 .0 .0)
-
-mul-equal-labels : tie.Need-mul-equal-labels Inv-loop μ-loop
-mul-equal-labels c = scaled-fits (c .before .before .before .before .before .before .before .before .before .before .before .before .before .before .before .args .base + c .before .before .before .before .before .before .before .loop .next) (length (c .before .before .before .before .before .before .before .before .before .before .before .before .before .before .before .args .memo .now)) 8 (omega (arith, c .before .before .before .before .before .before .before .before .before .before .before .before .before .before .before .pre .1 .wide, c .before .before .before .before .before .before .before .before .before .before .before .before .before .before .before .pre .1 .few, c .before .before .before .before .before .before .loop-test .taken)) (c .before .before .before .before .before .before .before .before .before .before .before .before .before .before .before .good .1 .1 .0 .1)
-
-shared-slice-read-equal-labels : tie.Need-shared-slice-read-equal-labels Inv-loop μ-loop
-shared-slice-read-equal-labels c = omega (arith, c .before .before .before .before .before .before .before .before .before .before .before .before .before .before .before .before .pre .1 .wide, c .before .before .before .before .before .before .before .before .before .before .before .before .before .before .before .before .pre .1 .few, c .before .before .before .before .before .before .before .loop-test .taken, c .before .before .before .before .before .before .before .before .before .before .before .before .before .before .before .before .good .1 .1 .0 .0)
-
 equal-labels-requires : tie.Need-equal-labels-requires Inv-loop μ-loop
 equal-labels-requires c κs =
-    let w = c .before .before .before .before .before .before .before .before .before .before .before .before .before .loop .inv .1 .lent in
-    let h = c .before .before .before .before .before .before .before .before .before .before .before .before .loop-test .taken in
-    let s = c .before .before .before .before .before .before .before .before .before .before .before .before .before .before .before .before .before .before .before .before .before in
-    (w .formed, w .touch, s .pre .2, s .pre .3, s .pre .1 .own (c .before .before .before .before .before .before .before .before .before .before .before .before .before .loop .next) h, s .pre .1 .connected (c .before .before .before .before .before .before .before .before .before .before .before .before .before .loop .next) h, w .slots, w .desks, w .outs, w .others)
+    let w = c .before .before .before .before .before .before .before .before .before .before .before .before .loop .inv .1 .lent in
+    let h = c .before .before .before .before .before .before .before .before .before .before .before .loop-test .taken in
+    let s = c .before .before .before .before .before .before .before .before .before .before .before .before .before .before .before .before .before .before .before .before in
+    (w .formed, w .touch, s .pre .2, s .pre .3, s .pre .1 .own (c .before .before .before .before .before .before .before .before .before .before .before .before .loop .next) h, s .pre .1 .connected (c .before .before .before .before .before .before .before .before .before .before .before .before .loop .next) h, w .slots, w .desks, w .outs, w .others)
 
 same-length-6 : tie.Need-same-length-6 Inv-loop μ-loop
-same-length-6 c = c .before .before .before .before .before .before .before .before .before .before .before .equal-labels .kept .1 .1 .1 .1 .0 ∙ c .before .before .before .before .before .before .before .before .before .before .before .before .before .before .before .before .before .before .before .before .before .before .before .before .before .loop .inv .1 .arena-long
+same-length-6 c = c .before .before .before .before .before .before .before .before .before .before .before .equal-labels .kept .1 .1 .1 .1 .0 ∙ c .before .before .before .before .before .before .before .before .before .before .before .before .before .before .before .before .before .before .before .before .before .before .before .before .loop .inv .1 .arena-long
 
 same-length-7 : tie.Need-same-length-7 Inv-loop μ-loop
-same-length-7 c = c .before .before .before .before .before .before .before .before .before .before .before .equal-labels .kept .1 .1 .1 .1 .1 .0 ∙ c .before .before .before .before .before .before .before .before .before .before .before .before .before .before .before .before .before .before .before .before .before .before .before .before .before .loop .inv .1 .lengths-long
+same-length-7 c = c .before .before .before .before .before .before .before .before .before .before .before .equal-labels .kept .1 .1 .1 .1 .1 .0 ∙ c .before .before .before .before .before .before .before .before .before .before .before .before .before .before .before .before .before .before .before .before .before .before .before .before .loop .inv .1 .lengths-long
 
 same-length-8 : tie.Need-same-length-8 Inv-loop μ-loop
-same-length-8 c = c .before .before .before .before .before .before .before .before .before .before .before .equal-labels .kept .1 .1 .1 .1 .1 .1 .0 ∙ c .before .before .before .before .before .before .before .before .before .before .before .before .before .before .before .before .before .before .before .before .before .before .before .before .before .loop .inv .1 .scratch-long
+same-length-8 c = c .before .before .before .before .before .before .before .before .before .before .before .equal-labels .kept .1 .1 .1 .1 .1 .1 .0 ∙ c .before .before .before .before .before .before .before .before .before .before .before .before .before .before .before .before .before .before .before .before .before .before .before .before .loop .inv .1 .scratch-long
 
 same-length-9 : tie.Need-same-length-9 Inv-loop μ-loop
-same-length-9 c = c .before .before .before .before .before .before .before .before .before .before .before .equal-labels .kept .1 .1 .1 .1 .1 .1 .1 .0 ∙ c .before .before .before .before .before .before .before .before .before .before .before .before .before .before .before .before .before .before .before .before .before .before .before .before .before .loop .inv .1 .own-long
+same-length-9 c = c .before .before .before .before .before .before .before .before .before .before .before .equal-labels .kept .1 .1 .1 .1 .1 .1 .1 .0 ∙ c .before .before .before .before .before .before .before .before .before .before .before .before .before .before .before .before .before .before .before .before .before .before .before .before .loop .inv .1 .own-long
 
 same-length-10 : tie.Need-same-length-10 Inv-loop μ-loop
-same-length-10 c = c .before .before .before .before .before .before .before .before .before .before .before .equal-labels .kept .1 .1 .1 .1 .1 .1 .1 .1 .0 ∙ c .before .before .before .before .before .before .before .before .before .before .before .before .before .before .before .before .before .before .before .before .before .before .before .before .before .loop .inv .1 .other-long
+same-length-10 c = c .before .before .before .before .before .before .before .before .before .before .before .equal-labels .kept .1 .1 .1 .1 .1 .1 .1 .1 .0 ∙ c .before .before .before .before .before .before .before .before .before .before .before .before .before .before .before .before .before .before .before .before .before .before .before .before .loop .inv .1 .other-long
 
 returns-2 : tie.Need-returns-2 Inv-loop μ-loop
 unfolding labelAt
 returns-2 c =
-    let a = c .before .before .before .before .before .before .before .before .before .before .before .before .before .before .before .before .before .before .before .before .before .before .before .before .before .before .before .before .before .before .before .before .before .args in
-    let y = label (a .bytes .now) (getD (a .memo .now) (a .base + c .before .before .before .before .before .before .before .before .before .before .before .before .before .before .before .before .before .before .before .before .before .before .before .before .before .loop .next) 0) in
+    let a = c .before .before .before .before .before .before .before .before .before .before .before .before .before .before .before .before .before .before .before .before .before .before .before .before .before .before .before .before .before .before .before .before .args in
+    let y = label (a .bytes .now) (getD (a .memo .now) (a .base + c .before .before .before .before .before .before .before .before .before .before .before .before .before .before .before .before .before .before .before .before .before .before .before .before .loop .next) 0) in
     let e = same-iff (label (a .bytes .now) (a .x)) y .0 (sym (c .before .before .before .before .before .before .before .before .before .before .before .equal-labels .ensures .0) ∙ c .if4 .taken) in
-    (picked-hit (labelAt (a .bytes .now) (a .memo .now) (a .base)) (a .count) (a .used) (label (a .bytes .now) (a .x)) (c .before .before .before .before .before .before .before .before .before .before .before .before .before .before .before .before .before .before .before .before .before .before .before .before .before .loop .next) (c .before .before .before .before .before .before .before .before .before .before .before .before .before .before .before .before .before .before .before .before .before .before .before .before .loop-test .taken) (sym (c .before .before .before .before .before .before .before .before .before .before .before .before .before .before .before .before .before .before .before .before .before .before .before .contains .ensures) ∙ c .before .before .before .before .before .before .before .before .before .before .before .before .before .before .before .before .before .before .before .before .before .before .if1 .left) (sym e), c .before .before .before .before .before .before .before .before .before .before .before .equal-labels .ensures .1)
+    (picked-hit (labelAt (a .bytes .now) (a .memo .now) (a .base)) (a .count) (a .used) (label (a .bytes .now) (a .x)) (c .before .before .before .before .before .before .before .before .before .before .before .before .before .before .before .before .before .before .before .before .before .before .before .before .loop .next) (c .before .before .before .before .before .before .before .before .before .before .before .before .before .before .before .before .before .before .before .before .before .before .before .loop-test .taken) (sym (c .before .before .before .before .before .before .before .before .before .before .before .before .before .before .before .before .before .before .before .before .before .before .contains .ensures) ∙ c .before .before .before .before .before .before .before .before .before .before .before .before .before .before .before .before .before .before .before .before .before .if1 .left) (sym e), c .before .before .before .before .before .before .before .before .before .before .before .equal-labels .ensures .1)
 
 loop-less-3 : tie.Need-loop-less-3 Inv-loop μ-loop
-loop-less-3 c = omega (arith, c .before .before .before .before .before .before .before .before .before .before .before .before .before .before .before .before .before .before .before .before .before .before .before .before .loop-test .taken)
+loop-less-3 c = omega (arith, c .before .before .before .before .before .before .before .before .before .before .before .before .before .before .before .before .before .before .before .before .before .before .before .loop-test .taken)
 
 loop-again-3 : tie.Need-loop-again-3 Inv-loop μ-loop
 unfolding labelAt
 loop-again-3 c =
-    let a = c .before .before .before .before .before .before .before .before .before .before .before .before .before .before .before .before .before .before .before .before .before .before .before .before .before .before .before .before .before .before .before .before .before .args in
-    let y = label (a .bytes .now) (getD (a .memo .now) (a .base + c .before .before .before .before .before .before .before .before .before .before .before .before .before .before .before .before .before .before .before .before .before .before .before .before .before .loop .next) 0) in (
-      omega (arith, c .before .before .before .before .before .before .before .before .before .before .before .before .before .before .before .before .before .before .before .before .before .before .before .before .loop-test .taken),
-      keeping-next (c .before .before .before .before .before .before .before .before .before .before .before .before .before .before .before .before .before .before .before .before .before .before .before .before .before .loop .inv .1) (c .before .before .before .before .before .before .before .before .before .before .before .equal-labels .ensures .1) (c .before .before .before .before .before .before .before .before .before .before .before .equal-labels .kept .1 .1 .1 .1 .0) (c .before .before .before .before .before .before .before .before .before .before .before .equal-labels .kept .1 .1 .1 .1 .1 .0) (c .before .before .before .before .before .before .before .before .before .before .before .equal-labels .kept .1 .1 .1 .1 .1 .1 .0) (c .before .before .before .before .before .before .before .before .before .before .before .equal-labels .kept .1 .1 .1 .1 .1 .1 .1 .0) (c .before .before .before .before .before .before .before .before .before .before .before .equal-labels .kept .1 .1 .1 .1 .1 .1 .1 .1 .0),
-      passed-differ (c .before .before .before .before .before .before .before .before .before .before .before .before .before .before .before .before .before .before .before .before .before .before .before .before .before .loop .inv .2) (λ e. false≢true (sym (c .if4 .left) ∙ c .before .before .before .before .before .before .before .before .before .before .before .equal-labels .ensures .0 ∙ same-iff (label (a .bytes .now) (a .x)) y .1 (sym e))),
+    let a = c .before .before .before .before .before .before .before .before .before .before .before .before .before .before .before .before .before .before .before .before .before .before .before .before .before .before .before .before .before .before .before .before .args in
+    let y = label (a .bytes .now) (getD (a .memo .now) (a .base + c .before .before .before .before .before .before .before .before .before .before .before .before .before .before .before .before .before .before .before .before .before .before .before .before .loop .next) 0) in (
+      omega (arith, c .before .before .before .before .before .before .before .before .before .before .before .before .before .before .before .before .before .before .before .before .before .before .before .loop-test .taken),
+      keeping-next (c .before .before .before .before .before .before .before .before .before .before .before .before .before .before .before .before .before .before .before .before .before .before .before .before .loop .inv .1) (c .before .before .before .before .before .before .before .before .before .before .before .equal-labels .ensures .1) (c .before .before .before .before .before .before .before .before .before .before .before .equal-labels .kept .1 .1 .1 .1 .0) (c .before .before .before .before .before .before .before .before .before .before .before .equal-labels .kept .1 .1 .1 .1 .1 .0) (c .before .before .before .before .before .before .before .before .before .before .before .equal-labels .kept .1 .1 .1 .1 .1 .1 .0) (c .before .before .before .before .before .before .before .before .before .before .before .equal-labels .kept .1 .1 .1 .1 .1 .1 .1 .0) (c .before .before .before .before .before .before .before .before .before .before .before .equal-labels .kept .1 .1 .1 .1 .1 .1 .1 .1 .0),
+      passed-differ (c .before .before .before .before .before .before .before .before .before .before .before .before .before .before .before .before .before .before .before .before .before .before .before .before .loop .inv .2) (λ e. false≢true (sym (c .if4 .left) ∙ c .before .before .before .before .before .before .before .before .before .before .before .equal-labels .ensures .0 ∙ same-iff (label (a .bytes .now) (a .x)) y .1 (sym e))),
     )
 
 same-length-11 : tie.Need-same-length-11 Inv-loop μ-loop
@@ -170,24 +161,21 @@ pick-spec =
     contains-requires
     loop-less
     loop-again
-    add-if2
-    mul-if2
-    shared-slice-read-if2
+    add-y
+    mul-y
+    shared-slice-read-y
+    add-g
+    add-g-2
+    mul-g
+    shared-slice-read-g
     same-length
     same-length-2
     same-length-3
     same-length-4
     same-length-5
     returns
-    add-if3
-    add-if3-2
-    mul-if3
-    shared-slice-read-if3
     loop-less-2
     loop-again-2
-    add-equal-labels
-    mul-equal-labels
-    shared-slice-read-equal-labels
     equal-labels-requires
     same-length-6
     same-length-7
