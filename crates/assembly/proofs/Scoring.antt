@@ -31,11 +31,12 @@ use Rattle.assembly.specs.declared.answer.Score.{Score}
 use Rattle.assembly.specs.declared.answer.Scored.{Scored}
 use Rattle.assembly.specs.declared.answer.Scored.the-variants as says
 use Rattle.recurse.specs.declared.visit.Outcome.{Outcome}
-use Rattle.memoize.specs.Stored.{Cached, Stored}
+use Rattle.desk.specs.Cached.{Cached}
+use Rattle.memoize.specs.Stored.{Stored}
 use Rattle.recurse.specs.Follows.{Follows}
 use Rattle.assembly.specs.Answer.{answerOf}
 use Rattle.assembly.specs.Demand.{Demand3}
-use Rattle.memoize.proofs.Caching.{cached-none}
+use Rattle.desk.proofs.Caching.{cached-none}
 use Rattle.memoize.proofs.Entries.{stored-none}
 
 -- ---- rows 1 to 8

@@ -1,5 +1,5 @@
 -- What the memo's definition answers, by where the key is and what its entry says. Assumes nothing.
-use mathlib.Core.Path.{_≡_, refl, sym, ap, ap₂, _∙_}
+use mathlib.Core.Path.{_≡_, refl, sym, ap, ap₂, subst, _∙_}
 use mathlib.Core.Logic.{_≢_}
 use mathlib.Core.Bool.{Bool, true, false, not, _||_}
 use mathlib.Core.List.{List, [], _∷_, _++_, map}
@@ -124,6 +124,11 @@ module _ (r : Bytes) (old : List ℕ) (n : ℕ) (memo : List Entry) (s : Stored 
 
     pub answers-full : length old / 80 ≤ n → Answers r old old Full (remember (length old / 80) new memo)
     answers-full room = rw (unknown ∙ new-full (length old / 80) new memo (omega (arith, s .count))) (refl, refl)
+
+-- pieces with the same labels get the same answer
+pub answers-same : (r : Bytes) (old now : List ℕ) (a : Asked) (room : ℕ) (sets pieces : List ℕ) (index : ℕ) (removals : List ℕ) (memo : List Entry) → map (label r) sets ≡ map (label r) pieces
+    → Answers r old now a (remember room (entryWith r sets index removals) memo) → Answers r old now a (remember room (entryWith r pieces index removals) memo)
+answers-same r old now a room sets pieces index removals memo e h = subst (λ (k : List Bytes). Answers r old now a (remember room (record { key = sort k; index = index; removals = removals }) memo)) e h
 
 -- ---- a state's entry
 

@@ -1,29 +1,28 @@
 -- Keys: two sorted lists of labels are equal where one list is a permutation of the other, and taking labels out one at a time decides that. Assumes nothing.
-use mathlib.Core.Path.{_≡_, refl, sym, ap, ap₂, subst, _∙_}
+use mathlib.Core.Path.{_≡_, refl, sym, ap, ap₂, _∙_}
 use mathlib.Core.Logic.{_≢_, _⊎_, inl, inr}
-use mathlib.Core.Bool.{Bool, true, false, false≢true}
-use mathlib.Core.List.{List, [], _∷_, _++_, map, List·Permᴰ as Perm, List·Permᴰ·nil as p-nil, List·Permᴰ·cons as p-cons, List·Permᴰ·swap as p-swap, List·Permᴰ·trans as p-trans, Permᴰ·refl as perm-refl, Permᴰ·symm as perm-sym}
-use Prim.Native.Nat.{ℕ, zero, suc, _+_, _-_, _*_, _%_, _^_, _≤_, _<_}
+use mathlib.Core.Bool.{true, false, false≢true}
+use mathlib.Core.List.{List, [], _∷_, _++_, map, List·Permᴰ as Perm, List·Permᴰ·nil as p-nil, List·Permᴰ·cons as p-cons, List·Permᴰ·swap as p-swap, List·Permᴰ·trans as p-trans, Permᴰ·symm as perm-sym}
+use Prim.Native.Nat.{ℕ, zero, suc, _+_, _*_, _%_, _^_, _≤_, _<_}
 use native.Mathlib.Nat.{mod-lt}
 use native.Mathlib.Numerals.{add-one}
 use native.Mathlib.Decide.{ℕ-discrete}
 use native.Mathlib.Omega.{arith}
 use lib.Bits.{bitOr}
-use lib.Dec.{eqb}
-use lib.ListN.{length, getD, set, take, drop, length-append, length-drop, length-map, drop-of-length-le, List·getD-map}
-use lib.Seq.{take-suc, drop-cons, getD-drop, getD-set-same, getD-set-other}
+use lib.ListN.{length, getD, set, take, drop, length-drop, length-map, drop-of-length-le, List·getD-map}
+use lib.Seq.{take-suc, drop-cons, getD-drop}
 use borrow.Author.Tests.{eq-eqb, ne-eqb, eqb-true, eqb-false}
 use Rattle.bitset.specs.Bits.{bit, has}
 use Rattle.bitset.proofs.Bools.{two}
 use Rattle.bitset.proofs.Laws.{bit-or, bit-one, bit-other, bit-empty, bit-le}
 use Rattle.bitset.proofs.Members.{in-or-out, or-left-in, or-right-in}
-use Rattle.molecule.specs.Lists.{Bytes, pick}
+use Rattle.molecule.specs.Lists.{Bytes}
 use Rattle.canonize.specs.Strings.{sort, same, hash, hashFrom}
 use Rattle.canonize.specs.Label.{label}
 use Rattle.canonize.proofs.Comparing.{same-refl, same-is}
-use Rattle.canonize.proofs.Sorting.{Out, first, later, out-perm, perm-out, perm-cons, perm-nil, sort-perm, sort-canonical, perm-of-sort, not-both}
+use Rattle.canonize.proofs.Sorting.{Out, first, later, out-perm, perm-out, perm-cons, sort-perm, sort-canonical, perm-of-sort}
 use Rattle.search.specs.Memo.{sameKey}
-use Rattle.memoize.specs.Stored.{Hashed, Block, labelAt, Picked, hashSum}
+use Rattle.memoize.specs.Stored.{Block, labelAt, Picked, hashSum}
 
 -- ---- equal keys
 
@@ -88,41 +87,11 @@ hash-below h (a ∷ x) l = hash-below ((h * 257 + a) % 36028797018963913) x (mod
 pub hash-lt : (x : Bytes) → hash x < 36028797018963913
 hash-lt x = hash-below 1 x (omega arith)
 
--- the hashes of the first i pieces are written, and total is their sum
-pub record Hashing (r : Bytes) (pieces hashes : List ℕ) (total i : ℕ) : Type 0 where
-  pub within : i ≤ length pieces
-  pub is : (j : ℕ) → j < i → getD hashes j 0 ≡ hash (label r (getD pieces j 0))
-  pub sum : total + hashSum (drop i (map (label r) pieces)) ≡ hashSum (map (label r) pieces)
-  pub small : total ≤ i * 36028797018963913
-
-pub hashing-start : (r : Bytes) (pieces hashes : List ℕ) → Hashing r pieces hashes 0 0
-hashing-start r pieces hashes = record { within = omega arith; is = λ j h. absurd (omega arith); sum = omega arith; small = omega arith }
-
-label-next : (r : Bytes) (pieces : List ℕ) (i : ℕ) → i < length pieces → drop i (map (label r) pieces) ≡ label r (getD pieces i 0) ∷ drop (suc i) (map (label r) pieces)
+-- the next label of what is left
+pub label-next : (r : Bytes) (pieces : List ℕ) (i : ℕ) → i < length pieces → drop i (map (label r) pieces) ≡ label r (getD pieces i 0) ∷ drop (suc i) (map (label r) pieces)
 label-next r pieces i h =
     drop-cons (map (label r) pieces) i (label r 0) (omega (arith, length-map pieces (label r)))
     ∙ ap (λ (z : Bytes). z ∷ drop (suc i) (map (label r) pieces)) (List·getD-map (label r) pieces i 0)
-
-module _ (r : Bytes) (pieces hashes : List ℕ) (total i : ℕ) (w : Hashing r pieces hashes total i) where
-  pub hashing-next : i < length pieces → i < length hashes → (h : ℕ) → h ≡ hash (label r (getD pieces i 0)) → Hashing r pieces (set hashes i h) (total + h) (i + 1)
-  unfolding hashSum
-  hashing-next l k h e = record {
-    within = omega arith;
-    is = λ j g. go j g (ℕ-discrete j i);
-    sum = rw add-one (omega (arith, w .sum, ap hashSum (label-next r pieces i l), e));
-    small = omega (arith, w .small, hash-lt (label r (getD pieces i 0)), e);
-  }
-    where
-      go : (j : ℕ) → j < i + 1 → Dec (j ≡ i) → getD (set hashes i h) j 0 ≡ hash (label r (getD pieces j 0))
-      go j g (yes q) = rw q (getD-set-same hashes i h 0 k ∙ e)
-      go j g (no q) = getD-set-other hashes i j h 0 q ∙ w .is j (omega arith)
-
-  pub hashing-done : length pieces ≤ length hashes → length pieces ≤ i → Hashed r pieces hashes × (total ≡ hashSum (map (label r) pieces))
-  unfolding hashSum
-  hashing-done m l = (
-    record { many = m; is = λ j h. w .is j (omega arith) },
-    omega (arith, w .sum, ap hashSum (drop-of-length-le (map (label r) pieces) {i = i} (omega (arith, length-map pieces (label r))))),
-  )
 
 -- ---- what is not used
 

@@ -1,7 +1,7 @@
 -- The theory of the memo table.
-pub mod Caching
-pub mod Lending
+pub mod Keeping
 pub mod Keys
+pub mod Standing
 pub mod Lists
 pub mod Filling
 pub mod Entries

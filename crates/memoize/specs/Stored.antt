@@ -16,26 +16,19 @@ use Rattle.molecule.specs.Check.{check, accepted}
 use Rattle.canonize.specs.Strings.{sort, hash}
 use Rattle.canonize.specs.Label.{label}
 use Rattle.canonize.specs.Buffers.{Slots}
+use Rattle.desk.specs.Cached.{Stands}
 use Rattle.search.specs.Memo.{Entry, Memo, goes, stopped, full}
 use Rattle.memoize.specs.declared.Asked.{Asked}
 use Rattle.memoize.specs.declared.Asked.the-variants.{Goes, Stopped, Full}
 
--- ---- the desk
-
--- 1,024 slots with a set and the hash of its label, and 1,024 with two sets of one label; a slot that begins with 0 says nothing
-pub record Cached (r : Bytes) (desk : List ℕ) : Type 0 where
-  pub wide : 4096 ≤ length desk
-  pub hashes : (i : ℕ) → i < 1024 → getD desk (2 * i) 0 ≢ 0 → getD desk (2 * i + 1) 0 ≡ hash (label r (getD desk (2 * i) 0))
-  pub pairs : (i : ℕ) → i < 1024 → getD desk (2048 + 2 * i) 0 ≢ 0 → label r (getD desk (2048 + 2 * i) 0) ≡ label r (getD desk (2048 + 2 * i + 1) 0)
-
--- an accepted record with the bonds at its atoms, and what is lent to write its labels
-pub record Lent (r : Bytes) (at desk arena lengths scratch own : List ℕ) : Type 0 where
+-- an accepted record with the bonds at its atoms, and what is lent to write two of its labels
+pub record Writing (r : Bytes) (at arena lengths scratch own other : List ℕ) : Type 0 where
   pub formed : check r ≡ accepted
   pub touch : at ≡ bondsAtWords r
-  pub cached : Cached r desk
   pub slots : Slots arena lengths
   pub desks : 384 ≤ length scratch
   pub outs : 389 ≤ length own
+  pub others : 389 ≤ length other
 
 -- ---- pieces
 
@@ -48,6 +41,17 @@ pub record Fragments (r : Bytes) (l : List ℕ) : Type 0 where
 pub record Hashed (r : Bytes) (l hashes : List ℕ) : Type 0 where
   pub many : length l ≤ length hashes
   pub is : (j : ℕ) → j < length l → getD hashes j 0 ≡ hash (label r (getD l j 0))
+
+-- the sum of the hashes of a list of labels
+unfoldable pub hashSum : List Bytes → ℕ
+hashSum [] = 0
+hashSum (x ∷ xs) = hash x + hashSum xs
+
+-- for each piece a set that stands for it and the hash of its label, and the sum of the hashes
+pub record Stood (r : Bytes) (pieces sets hashes : List ℕ) (total : ℕ) : Type 0 where
+  pub stands : (j : ℕ) → j < length pieces → Stands r (getD pieces j 0) (getD sets j 0)
+  pub hashed : Hashed r pieces hashes
+  pub sum : total ≡ hashSum (map (label r) pieces)
 
 -- n pieces from word base on, and their hashes
 pub record Block (r : Bytes) (words : List ℕ) (base n : ℕ) : Type 0 where
@@ -67,11 +71,6 @@ pub record Picked (f : ℕ → Bytes) (n used : ℕ) (x : Bytes) (k : ℕ) : Typ
   pub free : k < n → bit used k ≡ 0
   pub hit : k < n → f k ≡ x
   pub none : n ≤ k → (j : ℕ) → j < n → bit used j ≡ 0 → f j ≢ x
-
--- the sum of the hashes of a list of labels
-unfoldable pub hashSum : List Bytes → ℕ
-hashSum [] = 0
-hashSum (x ∷ xs) = hash x + hashSum xs
 
 -- ---- entries
 

@@ -1,145 +1,24 @@
-// The search's memo (src/memoize.rs): entries of 80 words in the lent table, found by a hash of the piece labels and settled by the labels. specs/Stored.antt has the layout of the
-// table and of the desk, whose caches spare labels that were computed before.
+// The search's memo (src/memoize.rs): entries of 80 words in the lent table, found by a hash of the piece labels and settled by the labels. For a piece an entry has a set that stands
+// for it (desk), so that the same set settles most questions. specs/Stored.antt has the layout of the table.
 ghost use mathlib.Core.Path.{_≡_};
 ghost use mathlib.Core.Bool.{true, not, _||_};
 ghost use mathlib.Core.List.{List, map};
 ghost use Prim.Native.Nat.{ℕ, _+_, _*_, _/_, _%_, _≤_, _<_};
 ghost use lib.ListN.{length, getD, take, drop};
 ghost use lib.Dec.{ltb};
-ghost use Rattle.molecule.specs.Touch.{bondsAtWords};
 ghost use Rattle.molecule.specs.Connected.{Own, Connected};
-ghost use Rattle.molecule.specs.Check.{check, accepted};
 ghost use Rattle.canonize.specs.Buffers.{Slots};
 ghost use Rattle.canonize.specs.Label.{label};
-ghost use Rattle.canonize.specs.Strings.{lexLe, sort, same, hash};
+ghost use Rattle.canonize.specs.Strings.{lexLe, sort, hash};
 ghost use Rattle.search.specs.Memo.{Entry, sameKey, remember};
-ghost use Rattle.memoize.specs.Stored.{Cached, Lent, Fragments, Hashed, Block, labelAt, Picked, hashSum, Held, Stored, Located, Filled, Put, Changed, entryWith, Answers};
-use canonize::compare;
+ghost use Rattle.desk.specs.Cached.{Cached, Lent};
+ghost use Rattle.memoize.specs.Stored.{Writing, Fragments, Hashed, Stood, Block, labelAt, Picked, hashSum, Held, Stored, Located, Filled, Put, Changed, entryWith, Answers};
 
 // Whether the state goes on, with the number of entries then; is stopped; or finds every entry used.
 pub enum Asked {
     Goes(usize),
     Stopped,
     Full,
-}
-
-// The slot of x in a cache.
-fn slot(x: u64) -> usize
-    ensures { λ r. ⌜ r < 1024 ⌝ }
-{
-    (x % 4_294_967_291 % 1_024) as usize
-}
-
-// The hash of x's label, computed.
-fn label_hash(
-    bytes: &[u8],
-    at: &[u64; 65],
-    x: u64,
-    arena: &mut [u8],
-    lengths: &mut [usize],
-    scratch: &mut [u8],
-    own: &mut [u8],
-) -> u64
-    requires { ⌜ (check (now bytes) ≡ accepted) × (now at ≡ bondsAtWords (now bytes)) × Own (now bytes) x × Connected (now bytes) x
-        × Slots (now arena) (now lengths) × (384 ≤ length (now scratch)) × (389 ≤ length (now own)) ⌝ }
-    ensures hash { λ r. ⌜ r ≡ hash (label (now (bytes .entry)) x) ⌝ }
-    ensures slots { λ r. ⌜ Slots (now (arena .exit)) (now (lengths .exit)) ⌝ }
-{
-    let n = canonize::label_into(bytes, at, x, arena, lengths, scratch, own);
-    compare::hash(&own[0..n])
-}
-
-// The hash of x's label.
-fn hash_of(
-    bytes: &[u8],
-    at: &[u64; 65],
-    x: u64,
-    desk: &mut [u64],
-    arena: &mut [u8],
-    lengths: &mut [usize],
-    scratch: &mut [u8],
-    own: &mut [u8],
-) -> u64
-    requires { ⌜ Lent (now bytes) (now at) (now desk) (now arena) (now lengths) (now scratch) (now own) × Own (now bytes) x × Connected (now bytes) x ⌝ }
-    ensures hash { λ r. ⌜ r ≡ hash (label (now (bytes .entry)) x) ⌝ }
-    ensures cached { λ r. ⌜ Cached (now (bytes .entry)) (now (desk .exit)) ⌝ }
-    ensures slots { λ r. ⌜ Slots (now (arena .exit)) (now (lengths .exit)) ⌝ }
-{
-    let i = 2 * slot(x);
-    if desk[i] == x {
-        return desk[i + 1];
-    }
-    let h = label_hash(bytes, at, x, arena, lengths, scratch, own);
-    desk[i] = x;
-    desk[i + 1] = h;
-    h
-}
-
-// Whether x and y have one label, computed.
-fn equal_labels(
-    bytes: &[u8],
-    at: &[u64; 65],
-    x: u64,
-    y: u64,
-    arena: &mut [u8],
-    lengths: &mut [usize],
-    scratch: &mut [u8],
-    own: &mut [u8],
-    other: &mut [u8],
-) -> bool
-    requires { ⌜ (check (now bytes) ≡ accepted) × (now at ≡ bondsAtWords (now bytes)) × Own (now bytes) x × Connected (now bytes) x × Own (now bytes) y × Connected (now bytes) y
-        × Slots (now arena) (now lengths) × (384 ≤ length (now scratch)) × (389 ≤ length (now own)) × (389 ≤ length (now other)) ⌝ }
-    ensures same { λ r. ⌜ r ≡ same (label (now (bytes .entry)) x) (label (now (bytes .entry)) y) ⌝ }
-    ensures slots { λ r. ⌜ Slots (now (arena .exit)) (now (lengths .exit)) ⌝ }
-{
-    let n = canonize::label_into(bytes, at, x, arena, lengths, scratch, own);
-    let m = canonize::label_into(bytes, at, y, arena, lengths, scratch, other);
-    compare::equal(&own[0..n], &other[0..m])
-}
-
-// Whether the slot from word i on has x and y.
-fn is_pair(desk: &[u64], i: usize, x: u64, y: u64) -> bool
-    requires { ⌜ i + 1 < length (now desk) ⌝ }
-    ensures { λ r. ⌜ (r ≡ true → (getD (now (desk .entry)) i 0 ≡ x) × (getD (now (desk .entry)) (i + 1) 0 ≡ y)) ⌝ }
-{
-    if desk[i] != x {
-        return false;
-    }
-    desk[i + 1] == y
-}
-
-// Whether x and y have one label.
-fn same_label(
-    bytes: &[u8],
-    at: &[u64; 65],
-    x: u64,
-    y: u64,
-    desk: &mut [u64],
-    arena: &mut [u8],
-    lengths: &mut [usize],
-    scratch: &mut [u8],
-    own: &mut [u8],
-    other: &mut [u8],
-) -> bool
-    requires { ⌜ Lent (now bytes) (now at) (now desk) (now arena) (now lengths) (now scratch) (now own) × (389 ≤ length (now other))
-        × Own (now bytes) x × Connected (now bytes) x × Own (now bytes) y × Connected (now bytes) y ⌝ }
-    ensures same { λ r. ⌜ r ≡ same (label (now (bytes .entry)) x) (label (now (bytes .entry)) y) ⌝ }
-    ensures cached { λ r. ⌜ Cached (now (bytes .entry)) (now (desk .exit)) ⌝ }
-    ensures slots { λ r. ⌜ Slots (now (arena .exit)) (now (lengths .exit)) ⌝ }
-{
-    if x == y {
-        return true;
-    }
-    let i = 2_048 + 2 * slot(x ^ y);
-    if is_pair(desk, i, x, y) {
-        return true;
-    }
-    if equal_labels(bytes, at, x, y, arena, lengths, scratch, own, other) {
-        desk[i] = x;
-        desk[i + 1] = y;
-        return true;
-    }
-    false
 }
 
 // The first of the block's pieces that is not used and has x's label, whose hash is h; count where there is none.
@@ -152,17 +31,15 @@ fn pick(
     used: u64,
     x: u64,
     h: u64,
-    desk: &mut [u64],
     arena: &mut [u8],
     lengths: &mut [usize],
     scratch: &mut [u8],
     own: &mut [u8],
     other: &mut [u8],
 ) -> usize
-    requires { ⌜ Lent (now bytes) (now at) (now desk) (now arena) (now lengths) (now scratch) (now own) × (389 ≤ length (now other))
+    requires { ⌜ Writing (now bytes) (now at) (now arena) (now lengths) (now scratch) (now own) (now other)
         × Block (now bytes) (now memo) base count × Own (now bytes) x × Connected (now bytes) x × (h ≡ hash (label (now bytes) x)) ⌝ }
     ensures picked { λ r. ⌜ Picked (labelAt (now (bytes .entry)) (now (memo .entry)) base) count used (label (now (bytes .entry)) x) r ⌝ }
-    ensures cached { λ r. ⌜ Cached (now (bytes .entry)) (now (desk .exit)) ⌝ }
     ensures slots { λ r. ⌜ Slots (now (arena .exit)) (now (lengths .exit)) ⌝ }
 {
     let mut next = 0;
@@ -172,21 +49,15 @@ fn pick(
         if bitset::contains(used, j as u32) {
             continue;
         }
-        if memo[base + 32 + j] != h {
+        let y = memo[base + j];
+        let g = memo[base + 32 + j];
+        if y == x {
+            return j;
+        }
+        if g != h {
             continue;
         }
-        if same_label(
-            bytes,
-            at,
-            x,
-            memo[base + j],
-            desk,
-            arena,
-            lengths,
-            scratch,
-            own,
-            other,
-        ) {
+        if desk::equal_labels(bytes, at, x, y, arena, lengths, scratch, own, other) {
             return j;
         }
     }
@@ -201,18 +72,16 @@ fn same_pieces(
     base: usize,
     pieces: &[u64],
     hashes: &[u64],
-    desk: &mut [u64],
     arena: &mut [u8],
     lengths: &mut [usize],
     scratch: &mut [u8],
     own: &mut [u8],
     other: &mut [u8],
 ) -> bool
-    requires { ⌜ Lent (now bytes) (now at) (now desk) (now arena) (now lengths) (now scratch) (now own) × (389 ≤ length (now other))
+    requires { ⌜ Writing (now bytes) (now at) (now arena) (now lengths) (now scratch) (now own) (now other)
         × Block (now bytes) (now memo) base (length (now pieces)) × Fragments (now bytes) (now pieces) × Hashed (now bytes) (now pieces) (now hashes) ⌝ }
     ensures same { λ r. ⌜ r ≡ sameKey (sort (map (label (now (bytes .entry))) (now (pieces .entry))))
         (sort (map (label (now (bytes .entry))) (take (length (now (pieces .entry))) (drop base (now (memo .entry)))))) ⌝ }
-    ensures cached { λ r. ⌜ Cached (now (bytes .entry)) (now (desk .exit)) ⌝ }
     ensures slots { λ r. ⌜ Slots (now (arena .exit)) (now (lengths .exit)) ⌝ }
 {
     let mut used = 0;
@@ -227,7 +96,6 @@ fn same_pieces(
             used,
             pieces[i],
             hashes[i],
-            desk,
             arena,
             lengths,
             scratch,
@@ -260,18 +128,16 @@ fn is_key(
     pieces: &[u64],
     hashes: &[u64],
     total: u64,
-    desk: &mut [u64],
     arena: &mut [u8],
     lengths: &mut [usize],
     scratch: &mut [u8],
     own: &mut [u8],
     other: &mut [u8],
 ) -> bool
-    requires { ⌜ Lent (now bytes) (now at) (now desk) (now arena) (now lengths) (now scratch) (now own) × (389 ≤ length (now other))
+    requires { ⌜ Writing (now bytes) (now at) (now arena) (now lengths) (now scratch) (now own) (now other)
         × ((x : Entry) × Held (now bytes) (now memo) e x) × Fragments (now bytes) (now pieces) × Hashed (now bytes) (now pieces) (now hashes)
         × (total ≡ hashSum (map (label (now bytes)) (now pieces))) ⌝ }
     ensures key { λ r. ⌜ ((x : Entry) → Held (now (bytes .entry)) (now (memo .entry)) e x → r ≡ sameKey (sort (map (label (now (bytes .entry))) (now (pieces .entry)))) (x .key)) ⌝ }
-    ensures cached { λ r. ⌜ Cached (now (bytes .entry)) (now (desk .exit)) ⌝ }
     ensures slots { λ r. ⌜ Slots (now (arena .exit)) (now (lengths .exit)) ⌝ }
 {
     if memo[80 * e + 67] != total {
@@ -287,7 +153,6 @@ fn is_key(
         80 * e,
         pieces,
         hashes,
-        desk,
         arena,
         lengths,
         scratch,
@@ -305,18 +170,16 @@ fn locate(
     pieces: &[u64],
     hashes: &[u64],
     total: u64,
-    desk: &mut [u64],
     arena: &mut [u8],
     lengths: &mut [usize],
     scratch: &mut [u8],
     own: &mut [u8],
     other: &mut [u8],
 ) -> usize
-    requires { ⌜ Lent (now bytes) (now at) (now desk) (now arena) (now lengths) (now scratch) (now own) × (389 ≤ length (now other))
+    requires { ⌜ Writing (now bytes) (now at) (now arena) (now lengths) (now scratch) (now own) (now other)
         × ((m : List Entry) × Stored (now bytes) (now memo) entries m) × Fragments (now bytes) (now pieces) × Hashed (now bytes) (now pieces) (now hashes)
         × (total ≡ hashSum (map (label (now bytes)) (now pieces))) ⌝ }
     ensures located { λ r. ⌜ ((m : List Entry) → Stored (now (bytes .entry)) (now (memo .entry)) entries m → Located m (sort (map (label (now (bytes .entry))) (now (pieces .entry)))) r) ⌝ }
-    ensures cached { λ r. ⌜ Cached (now (bytes .entry)) (now (desk .exit)) ⌝ }
     ensures slots { λ r. ⌜ Slots (now (arena .exit)) (now (lengths .exit)) ⌝ }
 {
     let room = memo.len() / 80;
@@ -334,7 +197,6 @@ fn locate(
             pieces,
             hashes,
             total,
-            desk,
             arena,
             lengths,
             scratch,
@@ -453,33 +315,98 @@ fn store(
     memo[80 * h + 69] = e as u64 + 1;
 }
 
-// The hashes of the pieces' labels, and their sum.
-fn hash_all(
+// For each piece a set that stands for it and the hash of its label; the sum of the hashes.
+fn stand_all(
     bytes: &[u8],
     at: &[u64; 65],
     pieces: &[u64],
     hashes: &mut [u64],
+    sets: &mut [u64],
     desk: &mut [u64],
     arena: &mut [u8],
     lengths: &mut [usize],
     scratch: &mut [u8],
     own: &mut [u8],
+    other: &mut [u8],
 ) -> u64
-    requires { ⌜ Lent (now bytes) (now at) (now desk) (now arena) (now lengths) (now scratch) (now own)
-        × Fragments (now bytes) (now pieces) × (length (now pieces) ≤ length (now hashes)) × (length (now pieces) ≤ 32) ⌝ }
-    ensures hashed { λ r. ⌜ Hashed (now (bytes .entry)) (now (pieces .entry)) (now (hashes .exit)) × (r ≡ hashSum (map (label (now (bytes .entry))) (now (pieces .entry)))) ⌝ }
+    requires { ⌜ Lent (now bytes) (now at) (now desk) (now arena) (now lengths) (now scratch) (now own) × (389 ≤ length (now other))
+        × Fragments (now bytes) (now pieces) × (length (now pieces) ≤ length (now hashes)) × (length (now pieces) ≤ length (now sets)) × (length (now pieces) ≤ 32) ⌝ }
+    ensures stood { λ r. ⌜ Stood (now (bytes .entry)) (now (pieces .entry)) (now (sets .exit)) (now (hashes .exit)) r ⌝ }
     ensures cached { λ r. ⌜ Cached (now (bytes .entry)) (now (desk .exit)) ⌝ }
     ensures slots { λ r. ⌜ Slots (now (arena .exit)) (now (lengths .exit)) ⌝ }
 {
     let mut total = 0;
     let mut i = 0;
     while i < pieces.len() {
-        let h = hash_of(bytes, at, pieces[i], desk, arena, lengths, scratch, own);
-        hashes[i] = h;
-        total += h;
+        let known = desk::stands(
+            bytes,
+            at,
+            pieces[i],
+            desk,
+            arena,
+            lengths,
+            scratch,
+            own,
+            other,
+        );
+        hashes[i] = known.hash;
+        sets[i] = known.set;
+        total += known.hash;
         i += 1;
     }
     total
+}
+
+// The memo's answer to a state with these pieces, whose hashes have this sum.
+fn answer(
+    bytes: &[u8],
+    at: &[u64; 65],
+    memo: &mut [u64],
+    entries: usize,
+    pieces: &[u64],
+    hashes: &[u64],
+    total: u64,
+    index: u32,
+    removals: &[u32],
+    arena: &mut [u8],
+    lengths: &mut [usize],
+    scratch: &mut [u8],
+    own: &mut [u8],
+    other: &mut [u8],
+) -> Asked
+    requires { ⌜ Writing (now bytes) (now at) (now arena) (now lengths) (now scratch) (now own) (now other)
+        × ((m : List Entry) × Stored (now bytes) (now memo) entries m) × Fragments (now bytes) (now pieces) × Hashed (now bytes) (now pieces) (now hashes)
+        × (total ≡ hashSum (map (label (now bytes)) (now pieces))) × (length (now pieces) + length (now removals) ≤ 32) ⌝ }
+    ensures answer { λ r. ⌜ ((m : List Entry) → Stored (now (bytes .entry)) (now (memo .entry)) entries m → Answers (now (bytes .entry)) (now (memo .entry)) (now (memo .exit)) r
+        (remember (length (now (memo .entry)) / 80) (entryWith (now (bytes .entry)) (now (pieces .entry)) index (now (removals .entry))) m)) ⌝ }
+    ensures slots { λ r. ⌜ Slots (now (arena .exit)) (now (lengths .exit)) ⌝ }
+{
+    let e = locate(
+        bytes,
+        at,
+        memo,
+        entries,
+        pieces,
+        hashes,
+        total,
+        arena,
+        lengths,
+        scratch,
+        own,
+        other,
+    );
+    if e < entries {
+        if gives_way(memo, e, index, removals) {
+            replace(memo, e, index, removals);
+            return Asked::Goes(entries);
+        }
+        return Asked::Stopped;
+    }
+    if entries < memo.len() / 80 {
+        store(memo, entries, pieces, hashes, total, index, removals);
+        return Asked::Goes(entries + 1);
+    }
+    Asked::Full
 }
 
 // A state with these pieces, index and removals asks the memo, which has so many entries.
@@ -505,26 +432,15 @@ pub fn ask(
     ensures cached { λ r. ⌜ Cached (now (bytes .entry)) (now (desk .exit)) ⌝ }
     ensures slots { λ r. ⌜ Slots (now (arena .exit)) (now (lengths .exit)) ⌝ }
 {
+    let n = pieces.len();
     let mut hashes = [0u64; 32];
-    let total = hash_all(
+    let mut sets = [0u64; 32];
+    let total = stand_all(
         bytes,
         at,
         pieces,
         &mut hashes,
-        desk,
-        arena,
-        lengths,
-        scratch,
-        own,
-    );
-    let e = locate(
-        bytes,
-        at,
-        memo,
-        entries,
-        pieces,
-        &hashes,
-        total,
+        &mut sets,
         desk,
         arena,
         lengths,
@@ -532,16 +448,20 @@ pub fn ask(
         own,
         other,
     );
-    if e < entries {
-        if gives_way(memo, e, index, removals) {
-            replace(memo, e, index, removals);
-            return Asked::Goes(entries);
-        }
-        return Asked::Stopped;
-    }
-    if entries < memo.len() / 80 {
-        store(memo, entries, pieces, &hashes, total, index, removals);
-        return Asked::Goes(entries + 1);
-    }
-    Asked::Full
+    answer(
+        bytes,
+        at,
+        memo,
+        entries,
+        &sets[0..n],
+        &hashes,
+        total,
+        index,
+        removals,
+        arena,
+        lengths,
+        scratch,
+        own,
+        other,
+    )
 }

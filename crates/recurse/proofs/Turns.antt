@@ -39,7 +39,8 @@ use Rattle.recurse.specs.declared.visit.Gate.the-variants.{Goes as Opens
 use Rattle.memoize.specs.declared.Asked.{Asked}
 use Rattle.memoize.specs.declared.Asked.the-variants.{Goes, Stopped, Full}
 use Rattle.state.specs.Views.{stateOf}
-use Rattle.memoize.specs.Stored.{Cached, Fragments, Stored, entryWith, Answers}
+use Rattle.desk.specs.Cached.{Cached}
+use Rattle.memoize.specs.Stored.{Fragments, Stored, entryWith, Answers}
 use Rattle.branch.specs.Entered.{Entered}
 use Rattle.recurse.specs.Follows.{settingOf, runOf, Follows, Visited, Found, Opened, Stopped as Stopped-state, Ended, Gated, Own, betterOf, Lowered}
 use Rattle.branch.specs.Branching.{triedFrom, Turn, Next, Chooses, Below}

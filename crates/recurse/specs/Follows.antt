@@ -21,7 +21,8 @@ use Rattle.recurse.specs.declared.visit.Gate.{Gate}
 use Rattle.recurse.specs.declared.visit.Gate.the-variants.{Goes, Stops, Ends}
 use Rattle.state.specs.Views.{stateOf}
 use Rattle.branch.specs.Entered.{Searched, Entered}
-use Rattle.memoize.specs.Stored.{Lent, Stored}
+use Rattle.desk.specs.Cached.{Lent}
+use Rattle.memoize.specs.Stored.{Stored}
 
 -- the setting that the code's setting is
 abbrev pub settingOf : Setting → settings.Setting

@@ -1,46 +1,58 @@
 -- `memoize::ask` meets its contract. Assumes nothing.
 use borrow.Author.Needs.{needs}
-use mathlib.Core.Path.{_∙_}
+use Prim.Native.Nat.{_/_, _-_, _≤_}
 use native.Mathlib.Omega.{arith}
-use Rattle.memoize.proofs.Lending.{lent-next}
-use Rattle.memoize.proofs.Asking.{located-count, answers-changed, answers-stopped, answers-put, answers-full}
+use lib.ListN.{length, take, drop}
+use Rattle.memoize.proofs.Standing.{stood-length, stood-fragments, stood-hashed, stood-labels, stood-sum}
+use Rattle.memoize.proofs.Asking.{answers-same}
 use Rattle.memoize.proofs.ask.Statement.{statement}
 use Rattle.memoize.proofs.ask.Tie as tie
 
-slice-aggregate-hash-all : tie.Need-slice-aggregate-hash-all
-slice-aggregate-hash-all c = search needs
+slice-aggregate-stand-all : tie.Need-slice-aggregate-stand-all
+slice-aggregate-stand-all c = search needs
 
-hash-all-requires : tie.Need-hash-all-requires
-hash-all-requires c κs = search needs
+slice-aggregate-stand-all-2 : tie.Need-slice-aggregate-stand-all-2
+slice-aggregate-stand-all-2 c = search needs
 
-slice-aggregate-locate : tie.Need-slice-aggregate-locate
-slice-aggregate-locate c = search needs
+stand-all-requires : tie.Need-stand-all-requires
+stand-all-requires c κs = let s = c .before .before .before .before .before .before .before .before .before .before .before .before .before .before .before .before .before .before in let h : length (s .args .pieces .now) ≤ 32 = omega (arith, c .before .before .before .before .before .before .before .before .before .before .before .before .before .before .before .before .before .before .pre .4) in (s .pre .0, s .pre .1, s .pre .3, h, h, h)
 
-locate-requires : tie.Need-locate-requires
-locate-requires c κs =
-    let k = c .before .before .before .before .before .before .before .before .before .before .before .before .before .before .before .before .before .before .before .hash-all in
-    (lent-next (c .before .before .before .before .before .before .before .before .before .before .before .before .before .before .before .before .before .before .before .before .before .before .before .before .before .before .before .before .before .before .before .before .before .before .before .before .pre .0) (k .ensures .1 .0) (k .ensures .1 .1) (c .before .before .before .before .before .before .before .before .before .before .before .before .before .before .before .before .before .before .before .hash-all .kept .1 .1 .1 .1 .1 .1 .1 .0) (c .before .before .before .before .before .before .before .before .before .before .before .before .before .before .before .before .before .before .before .hash-all .kept .1 .1 .1 .1 .1 .1 .1 .1 .0), c .before .before .before .before .before .before .before .before .before .before .before .before .before .before .before .before .before .before .before .before .before .before .before .before .before .before .before .before .before .before .before .before .before .before .before .before .pre .1, c .before .before .before .before .before .before .before .before .before .before .before .before .before .before .before .before .before .before .before .before .before .before .before .before .before .before .before .before .before .before .before .before .before .before .before .before .pre .2, c .before .before .before .before .before .before .before .before .before .before .before .before .before .before .before .before .before .before .before .before .before .before .before .before .before .before .before .before .before .before .before .before .before .before .before .before .pre .3, k .ensures .0 .0, k .ensures .0 .1)
+sub-answer : tie.Need-sub-answer
+sub-answer c = search needs
 
-gives-way-requires : tie.Need-gives-way-requires
-gives-way-requires c κs = (omega (arith, c .before .if1 .taken, c .before .before .before .before .before .before .before .before .before .before .before .before .before .before .before .before .before .before .before .before .before .before .before .before .before .before .before .before .before .before .before .before .before .before .before .before .before .before .before .before .before .before .before .before .before .before .before .before .before .before .before .pre .2 .1 .fits), c .before .before .before .before .before .before .before .before .before .before .before .before .before .before .before .before .before .before .before .before .before .before .before .before .before .before .before .before .before .before .before .before .before .before .before .before .before .before .before .before .before .before .before .before .before .before .before .before .before .before .before .pre .2 .1 .held (c .before .before .before .before .before .before .before .before .before .before .before .before .before .before .locate .result) (c .before .if1 .taken) .few)
+part-answer-start : tie.Need-part-answer-start
+part-answer-start c = search needs
 
-replace-requires : tie.Need-replace-requires
-replace-requires c κs =
-    let a = c .before .before .before .before .before .before .before .before .before .before .before .before .before .before .before .before .before .before .before .before .before .before .before .before .before .before .before .before .before .before .before .before .before .before .before .before .before .before .before .before .before .before .before .before .before .before .before .before .before .before .before .before .before .before .args in
-    let s = c .before .before .before .before .before .before .before .before .before .before .before .before .before .before .before .before .before .before .before .before .before .before .before .before .before .before .before .before .before .before .before .before .before .before .before .before .before .before .before .before .before .before .before .before .before .before .before .before .before .before .before .before .before .before .pre .2 in
-    (omega (arith, c .before .before .before .before .if1 .taken, c .before .before .before .before .before .before .before .before .before .before .before .before .before .before .before .before .before .before .before .before .before .before .before .before .before .before .before .before .before .before .before .before .before .before .before .before .before .before .before .before .before .before .before .before .before .before .before .before .before .before .before .before .before .before .pre .2 .1 .fits), omega (arith, c .before .before .before .before .before .before .before .before .before .before .before .before .before .before .before .before .before .before .before .before .before .before .before .before .before .before .before .before .before .before .before .before .before .before .before .before .before .before .before .before .before .before .before .before .before .before .before .before .before .before .before .before .before .before .pre .4, located-count (a .bytes .now) (a .memo .now) (a .entries) (s .0) (s .1) (a .pieces .now) (a .removals .now) (a .index) (c .before .before .before .before .before .before .before .before .before .before .before .before .before .before .before .before .before .locate .result) (c .before .before .before .before .before .before .before .before .before .before .before .before .before .before .before .before .before .locate .ensures .0 (s .0) (s .1)) (c .before .before .before .before .if1 .taken)))
+part-answer-end : tie.Need-part-answer-end
+part-answer-end c = search needs
+
+slice-aggregate-answer : tie.Need-slice-aggregate-answer
+slice-aggregate-answer c = search needs
+
+answer-requires : tie.Need-answer-requires
+answer-requires c κs =
+    let s = c .before .before .before .before .before .before .before .before .before .before .before .before .before .before .before .before .before .before .before .before .before .before .before .before .before .before .before .before .before .before .before .before .before .before .before .before .before .before .before .before .before .before in
+    let k = c .before .before .before .before .before .before .before .before .before .before .before .before .before .before .before .before .before .before .before .before .before .before .before .stand-all in
+    let f : length (s .args .pieces .now) ≤ length (k .last .1 .1 .1 .1 .0) = omega (arith, c .before .before .before .before .before .before .before .before .before .before .before .before .before .before .before .before .before .before .before .before .before .before .before .before .before .before .before .before .before .before .before .before .before .before .before .before .before .before .before .before .before .before .pre .4, c .before .before .before .before .before .before .before .before .before .before .before .before .before .before .before .before .before .before .before .before .before .before .before .stand-all .kept .1 .1 .1 .1 .0) in (
+      record { formed = s .pre .0 .formed; touch = s .pre .0 .touch; slots = k .ensures .1 .1; desks = omega (arith, c .before .before .before .before .before .before .before .before .before .before .before .before .before .before .before .before .before .before .before .before .before .before .before .before .before .before .before .before .before .before .before .before .before .before .before .before .before .before .before .before .before .before .pre .0 .desks, c .before .before .before .before .before .before .before .before .before .before .before .before .before .before .before .before .before .before .before .before .before .before .before .stand-all .kept .1 .1 .1 .1 .1 .1 .1 .1 .0); outs = omega (arith, c .before .before .before .before .before .before .before .before .before .before .before .before .before .before .before .before .before .before .before .before .before .before .before .before .before .before .before .before .before .before .before .before .before .before .before .before .before .before .before .before .before .before .pre .0 .outs, c .before .before .before .before .before .before .before .before .before .before .before .before .before .before .before .before .before .before .before .before .before .before .before .stand-all .kept .1 .1 .1 .1 .1 .1 .1 .1 .1 .0); others = omega (arith, c .before .before .before .before .before .before .before .before .before .before .before .before .before .before .before .before .before .before .before .before .before .before .before .before .before .before .before .before .before .before .before .before .before .before .before .before .before .before .before .before .before .before .pre .1, c .before .before .before .before .before .before .before .before .before .before .before .before .before .before .before .before .before .before .before .before .before .before .before .stand-all .kept .1 .1 .1 .1 .1 .1 .1 .1 .1 .1 .0) },
+      s .pre .2,
+      stood-fragments (s .args .bytes .now) (s .args .pieces .now) (k .last .1 .1 .1 .1 .0) (k .last .1 .1 .1 .0) (k .result) (k .ensures .0) f,
+      stood-hashed (s .args .bytes .now) (s .args .pieces .now) (k .last .1 .1 .1 .1 .0) (k .last .1 .1 .1 .0) (k .result) (k .ensures .0) f,
+      stood-sum (s .args .bytes .now) (s .args .pieces .now) (k .last .1 .1 .1 .1 .0) (k .last .1 .1 .1 .0) (k .result) (k .ensures .0) f,
+      omega (arith, stood-length (s .args .bytes .now) (s .args .pieces .now) (k .last .1 .1 .1 .1 .0) (k .last .1 .1 .1 .0) (k .result) (k .ensures .0) f, c .before .before .before .before .before .before .before .before .before .before .before .before .before .before .before .before .before .before .before .before .before .before .before .before .before .before .before .before .before .before .before .before .before .before .before .before .before .before .before .before .before .before .pre .4),
+    )
 
 same-length : tie.Need-same-length
 same-length c = search needs
 
 same-length-2 : tie.Need-same-length-2
-same-length-2 c = c .before .before .before .before .before .before .before .before .before .before .before .before .before .before .before .before .before .before .before .before .locate .kept .1 .1 .1 .1 .1 .1 .1 .0 ∙ c .before .before .before .before .before .before .before .before .before .before .before .before .before .before .before .before .before .before .before .before .before .before .before .before .before .before .before .before .before .before .before .before .before .before .before .before .before .before .before .before .hash-all .kept .1 .1 .1 .1 .0
+same-length-2 c = search needs
 
 same-length-3 : tie.Need-same-length-3
-same-length-3 c = c .before .before .before .before .before .before .before .before .before .before .before .before .before .before .before .before .before .before .before .before .locate .kept .1 .1 .1 .1 .1 .1 .1 .1 .0 ∙ c .before .before .before .before .before .before .before .before .before .before .before .before .before .before .before .before .before .before .before .before .before .before .before .before .before .before .before .before .before .before .before .before .before .before .before .before .before .before .before .before .hash-all .kept .1 .1 .1 .1 .1 .0
+same-length-3 c = search needs
 
 same-length-4 : tie.Need-same-length-4
-same-length-4 c = c .before .before .before .before .before .before .before .before .before .before .before .before .before .before .before .before .before .before .before .before .locate .kept .1 .1 .1 .1 .1 .1 .1 .1 .1 .0 ∙ c .before .before .before .before .before .before .before .before .before .before .before .before .before .before .before .before .before .before .before .before .before .before .before .before .before .before .before .before .before .before .before .before .before .before .before .before .before .before .before .before .hash-all .kept .1 .1 .1 .1 .1 .1 .0
+same-length-4 c = search needs
 
 same-length-5 : tie.Need-same-length-5
 same-length-5 c = search needs
@@ -53,114 +65,26 @@ same-length-7 c = search needs
 
 returns : tie.Need-returns
 returns c =
-    let a = c .before .before .before .before .before .before .before .before .before .before .before .before .before .before .before .before .before .before .before .before .before .before .before .before .before .before .before .before .before .before .before .before .before .before .before .before .before .before .before .before .before .before .before .before .before .before .before .before .before .before .before .before .before .before .before .before .before .args in (
-      λ m s. answers-changed (a .bytes .now) (a .memo .now) (a .entries) m s (a .pieces .now) (a .removals .now) (a .index) (c .before .before .before .before .before .before .before .before .before .before .before .before .before .before .before .before .before .before .before .before .locate .result) (c .before .before .before .before .before .before .before .before .before .before .before .before .before .before .before .before .before .before .before .before .locate .ensures .0 m s) (c .before .before .before .before .before .before .before .if1 .taken) (c .before .before .before .before .before .gives-way .result) (c .before .before .before .before .before .gives-way .ensures) (c .before .before .before .before .if2 .taken) (c .before .before .replace .last .0) (c .before .before .replace .ensures) (c .before .before .before .before .before .before .before .before .before .before .before .before .before .before .before .before .before .before .before .before .before .before .before .before .before .before .before .before .before .before .before .before .before .before .before .before .before .before .before .before .before .before .before .before .before .before .before .before .before .before .before .before .before .before .before .before .before .pre .4),
-      c .before .before .before .before .before .before .before .before .before .before .before .before .before .before .before .before .before .before .before .before .locate .ensures .1,
-    )
-
-same-length-8 : tie.Need-same-length-8
-same-length-8 c = search needs
-
-same-length-9 : tie.Need-same-length-9
-same-length-9 c = search needs
-
-same-length-10 : tie.Need-same-length-10
-same-length-10 c = search needs
-
-same-length-11 : tie.Need-same-length-11
-same-length-11 c = search needs
-
-same-length-12 : tie.Need-same-length-12
-same-length-12 c = search needs
-
-same-length-13 : tie.Need-same-length-13
-same-length-13 c = search needs
-
-same-length-14 : tie.Need-same-length-14
-same-length-14 c = search needs
-
-returns-2 : tie.Need-returns-2
-returns-2 c =
-    let a = c .before .before .before .before .before .before .before .before .before .before .before .before .before .before .before .before .before .before .before .before .before .before .before .before .before .before .before .before .before .before .before .before .before .before .before .before .before .before .before .before .before .before .before .before .before .before .before .before .before .before .before .before .before .args in (
-      λ m s. answers-stopped (a .bytes .now) (a .memo .now) (a .entries) m s (a .pieces .now) (a .removals .now) (a .index) (c .before .before .before .before .before .before .before .before .before .before .before .before .before .before .before .before .locate .result) (c .before .before .before .before .before .before .before .before .before .before .before .before .before .before .before .before .locate .ensures .0 m s) (c .before .before .before .if1 .taken) (c .before .gives-way .result) (c .before .gives-way .ensures) (c .if2 .left),
-      c .before .before .before .before .before .before .before .before .before .before .before .before .before .before .before .before .locate .ensures .1,
-    )
-
-slice-aggregate-store : tie.Need-slice-aggregate-store
-slice-aggregate-store c = search needs
-
-store-requires : tie.Need-store-requires
-store-requires c κs = (omega (arith, c .before .before .if3 .taken), c .before .before .before .before .before .before .before .before .before .before .before .before .before .before .before .before .before .before .before .before .before .before .before .before .before .before .before .before .before .before .before .before .before .before .before .before .before .before .before .before .before .before .before .before .before .before .before .before .before .before .before .before .before .pre .4, c .before .before .before .before .before .before .before .before .before .before .before .before .before .before .before .before .before .before .before .before .before .before .before .before .before .before .before .before .before .before .before .before .before .before .before .before .hash-all .ensures .0 .0 .many)
-
-add-t59 : tie.Need-add-t59
-add-t59 c = omega (arith, c .before .before .before .before .before .if3 .taken, c .before .before .before .before .before .before .before .before .before .before .before .before .before .before .before .before .before .before .before .before .before .before .before .before .before .before .before .before .before .before .before .before .before .before .before .before .before .before .before .before .before .before .before .before .before .before .before .before .before .before .before .before .before .before .before .before .good .1 .1 .0 .0)
-
-same-length-15 : tie.Need-same-length-15
-same-length-15 c = search needs
-
-same-length-16 : tie.Need-same-length-16
-same-length-16 c = c .before .before .before .before .before .before .before .before .before .before .before .before .before .before .before .before .before .before .before .locate .kept .1 .1 .1 .1 .1 .1 .1 .0 ∙ c .before .before .before .before .before .before .before .before .before .before .before .before .before .before .before .before .before .before .before .before .before .before .before .before .before .before .before .before .before .before .before .before .before .before .before .before .before .before .before .hash-all .kept .1 .1 .1 .1 .0
-
-same-length-17 : tie.Need-same-length-17
-same-length-17 c = c .before .before .before .before .before .before .before .before .before .before .before .before .before .before .before .before .before .before .before .locate .kept .1 .1 .1 .1 .1 .1 .1 .1 .0 ∙ c .before .before .before .before .before .before .before .before .before .before .before .before .before .before .before .before .before .before .before .before .before .before .before .before .before .before .before .before .before .before .before .before .before .before .before .before .before .before .before .hash-all .kept .1 .1 .1 .1 .1 .0
-
-same-length-18 : tie.Need-same-length-18
-same-length-18 c = c .before .before .before .before .before .before .before .before .before .before .before .before .before .before .before .before .before .before .before .locate .kept .1 .1 .1 .1 .1 .1 .1 .1 .1 .0 ∙ c .before .before .before .before .before .before .before .before .before .before .before .before .before .before .before .before .before .before .before .before .before .before .before .before .before .before .before .before .before .before .before .before .before .before .before .before .before .before .before .hash-all .kept .1 .1 .1 .1 .1 .1 .0
-
-same-length-19 : tie.Need-same-length-19
-same-length-19 c = c .before .before .before .before .before .before .before .before .before .before .before .before .before .before .before .before .before .before .before .locate .kept .1 .1 .1 .1 .1 .1 .1 .1 .1 .1 .0 ∙ c .before .before .before .before .before .before .before .before .before .before .before .before .before .before .before .before .before .before .before .before .before .before .before .before .before .before .before .before .before .before .before .before .before .before .before .before .before .before .before .hash-all .kept .1 .1 .1 .1 .1 .1 .1 .0
-
-same-length-20 : tie.Need-same-length-20
-same-length-20 c = c .before .before .before .before .before .before .before .before .before .before .before .before .before .before .before .before .before .before .before .locate .kept .1 .1 .1 .1 .1 .1 .1 .1 .1 .1 .1 .0 ∙ c .before .before .before .before .before .before .before .before .before .before .before .before .before .before .before .before .before .before .before .before .before .before .before .before .before .before .before .before .before .before .before .before .before .before .before .before .before .before .before .hash-all .kept .1 .1 .1 .1 .1 .1 .1 .1 .0
-
-same-length-21 : tie.Need-same-length-21
-same-length-21 c = search needs
-
-returns-3 : tie.Need-returns-3
-returns-3 c =
-    let a = c .before .before .before .before .before .before .before .before .before .before .before .before .before .before .before .before .before .before .before .before .before .before .before .before .before .before .before .before .before .before .before .before .before .before .before .before .before .before .before .before .before .before .before .before .before .before .before .before .before .before .before .before .before .before .before .before .args in (
-      λ m s. answers-put (a .bytes .now) (a .memo .now) (a .entries) m s (a .pieces .now) (a .removals .now) (a .index) (c .before .before .before .before .before .before .before .before .before .before .before .before .before .before .before .before .before .before .before .locate .result) (c .before .before .before .before .before .before .before .before .before .before .before .before .before .before .before .before .before .before .before .locate .ensures .0 m s) (c .before .before .before .before .before .before .if1 .left) (c .before .before .before .before .before .if3 .taken) (c .before .before .store .last .0) (c .before .before .before .before .before .before .before .before .before .before .before .before .before .before .before .before .before .before .before .before .before .before .before .before .before .before .before .before .before .before .before .before .before .before .before .before .before .before .before .hash-all .last .1 .1 .1 .0) (c .before .before .before .before .before .before .before .before .before .before .before .before .before .before .before .before .before .before .before .before .before .before .before .before .before .before .before .before .before .before .before .before .before .before .before .before .before .before .before .hash-all .result) (c .before .before .store .ensures) (c .before .before .before .before .before .before .before .before .before .before .before .before .before .before .before .before .before .before .before .before .before .before .before .before .before .before .before .before .before .before .before .before .before .before .before .before .before .before .before .before .before .before .before .before .before .before .before .before .before .before .before .before .before .before .before .before .pre .4) (c .before .before .before .before .before .before .before .before .before .before .before .before .before .before .before .before .before .before .before .before .before .before .before .before .before .before .before .before .before .before .before .before .before .before .before .before .before .before .before .before .before .before .before .before .before .before .before .before .before .before .before .before .before .before .before .before .pre .3) (c .before .before .before .before .before .before .before .before .before .before .before .before .before .before .before .before .before .before .before .before .before .before .before .before .before .before .before .before .before .before .before .before .before .before .before .before .before .before .before .hash-all .ensures .0 .0) (c .before .before .before .before .before .before .before .before .before .before .before .before .before .before .before .before .before .before .before .before .before .before .before .before .before .before .before .before .before .before .before .before .before .before .before .before .before .before .before .hash-all .ensures .0 .1),
-      c .before .before .before .before .before .before .before .before .before .before .before .before .before .before .before .before .before .before .before .locate .ensures .1,
-    )
-
-same-length-22 : tie.Need-same-length-22
-same-length-22 c = search needs
-
-same-length-23 : tie.Need-same-length-23
-same-length-23 c = search needs
-
-same-length-24 : tie.Need-same-length-24
-same-length-24 c = search needs
-
-same-length-25 : tie.Need-same-length-25
-same-length-25 c = search needs
-
-same-length-26 : tie.Need-same-length-26
-same-length-26 c = search needs
-
-same-length-27 : tie.Need-same-length-27
-same-length-27 c = search needs
-
-same-length-28 : tie.Need-same-length-28
-same-length-28 c = search needs
-
-returns-4 : tie.Need-returns-4
-returns-4 c =
-    let a = c .before .before .before .before .before .before .before .before .before .before .before .before .before .before .before .before .before .before .before .before .before .before .before .before .before .before .before .before .before .before .before .before .before .before .before .before .before .before .before .before .before .before .before .before .before .before .before .before .before .before .before .args in (
-      λ m s. answers-full (a .bytes .now) (a .memo .now) (a .entries) m s (a .pieces .now) (a .removals .now) (a .index) (c .before .before .before .before .before .before .before .before .before .before .before .before .before .before .locate .result) (c .before .before .before .before .before .before .before .before .before .before .before .before .before .before .locate .ensures .0 m s) (c .before .if1 .left) (c .if3 .left),
-      c .before .before .before .before .before .before .before .before .before .before .before .before .before .before .locate .ensures .1,
+    let s = c .before .before .before .before .before .before .before .before .before .before .before .before .before .before .before .before .before .before .before .before .before .before .before .before .before .before .before .before .before .before .before .before .before .before .before .before .before .before .before .before .before .before .before .before .before .before .before .before .before .before .before .before .before .before .before in
+    let a = s .args in
+    let k = c .before .before .before .before .before .before .before .before .before .before .before .before .before .before .before .before .before .before .before .before .before .before .before .before .before .before .before .before .before .before .before .before .before .before .before .before .stand-all in
+    let f : length (s .args .pieces .now) ≤ length (k .last .1 .1 .1 .1 .0) = omega (arith, c .before .before .before .before .before .before .before .before .before .before .before .before .before .before .before .before .before .before .before .before .before .before .before .before .before .before .before .before .before .before .before .before .before .before .before .before .before .before .before .before .before .before .before .before .before .before .before .before .before .before .before .before .before .before .before .pre .4, c .before .before .before .before .before .before .before .before .before .before .before .before .before .before .before .before .before .before .before .before .before .before .before .before .before .before .before .before .before .before .before .before .before .before .before .before .stand-all .kept .1 .1 .1 .1 .0) in (
+      λ m t. answers-same (a .bytes .now) (a .memo .now) (c .before .before .before .before .before .before .before .before .before .before .before .before .answer .last .1 .1 .0) (c .before .before .before .before .before .before .before .before .before .before .before .before .answer .result) (length (a .memo .now) / 80) (take (length (a .pieces .now) - 0) (drop 0 (k .last .1 .1 .1 .1 .0))) (a .pieces .now) (a .index) (a .removals .now) m (stood-labels (s .args .bytes .now) (s .args .pieces .now) (k .last .1 .1 .1 .1 .0) (k .last .1 .1 .1 .0) (k .result) (k .ensures .0) f) (c .before .before .before .before .before .before .before .before .before .before .before .before .answer .ensures .0 m t),
+      (k .ensures .1 .0, c .before .before .before .before .before .before .before .before .before .before .before .before .answer .ensures .1),
     )
 
 pub ask-spec : {M : Type 1} → statement M
 ask-spec =
     tie.close
     (tie.spec
-    slice-aggregate-hash-all
-    hash-all-requires
-    slice-aggregate-locate
-    locate-requires
-    gives-way-requires
-    replace-requires
+    slice-aggregate-stand-all
+    slice-aggregate-stand-all-2
+    stand-all-requires
+    sub-answer
+    part-answer-start
+    part-answer-end
+    slice-aggregate-answer
+    answer-requires
     same-length
     same-length-2
     same-length-3
@@ -168,31 +92,4 @@ ask-spec =
     same-length-5
     same-length-6
     same-length-7
-    returns
-    same-length-8
-    same-length-9
-    same-length-10
-    same-length-11
-    same-length-12
-    same-length-13
-    same-length-14
-    returns-2
-    slice-aggregate-store
-    store-requires
-    add-t59
-    same-length-15
-    same-length-16
-    same-length-17
-    same-length-18
-    same-length-19
-    same-length-20
-    same-length-21
-    returns-3
-    same-length-22
-    same-length-23
-    same-length-24
-    same-length-25
-    same-length-26
-    same-length-27
-    same-length-28
-    returns-4)
+    returns)

@@ -18,9 +18,7 @@ shared-slice-read-if1 : tie.Need-shared-slice-read-if1
 shared-slice-read-if1 c = search needs
 
 returns : tie.Need-returns
-returns c =
-    let l = c .before .before .before .before .before .before .before .before .before .before .before .before .pre .0 in
-    (λ x h. key-total h (c .before .before .before .before .before .before .before .before .before .before .before .before .args .pieces .now) (c .before .before .before .before .before .before .before .before .before .before .before .before .args .total) (c .before .before .before .before .before .before .before .before .before .before .before .before .pre .5) (c .if1 .taken), (l .cached, l .slots))
+returns c = let s = c .before .before .before .before .before .before .before .before .before .before .before in (λ x h. key-total h (s .args .pieces .now) (s .args .total) (s .pre .4) (c .if1 .taken), s .pre .0 .slots)
 
 mul-if2 : tie.Need-mul-if2
 mul-if2 c = search needs
@@ -35,15 +33,13 @@ shared-slice-read-if2 : tie.Need-shared-slice-read-if2
 shared-slice-read-if2 c = search needs
 
 returns-2 : tie.Need-returns-2
-returns-2 c =
-    let l = c .before .before .before .before .before .before .before .before .before .before .before .before .before .before .pre .0 in
-    (λ x h. key-count h (c .before .before .before .before .before .before .before .before .before .before .before .before .before .before .args .pieces .now) (c .if2 .taken), (l .cached, l .slots))
+returns-2 c = let s = c .before .before .before .before .before .before .before .before .before .before .before .before .before in (λ x h. key-count h (s .args .pieces .now) (c .if2 .taken), s .pre .0 .slots)
 
 mul-same-pieces : tie.Need-mul-same-pieces
 mul-same-pieces c = search needs
 
 same-pieces-requires : tie.Need-same-pieces-requires
-same-pieces-requires c κs = (c .before .before .before .before .before .before .before .before .before .before .before .before .before .before .before .before .before .before .before .before .pre .0, c .before .before .before .before .before .before .before .before .before .before .before .before .before .before .before .before .before .before .before .before .pre .1, rw (c .before .before .before .before .before .before .if2 .left) at (c .before .before .before .before .before .before .before .before .before .before .before .before .before .before .before .before .before .before .before .before .pre .2 .1 .block), c .before .before .before .before .before .before .before .before .before .before .before .before .before .before .before .before .before .before .before .before .pre .3, c .before .before .before .before .before .before .before .before .before .before .before .before .before .before .before .before .before .before .before .before .pre .4)
+same-pieces-requires c κs = let s = c .before .before .before .before .before .before .before .before .before .before .before .before .before .before .before .before .before .before in (s .pre .0, rw (c .before .before .before .before .before .if2 .left) at (s .pre .1 .1 .block), s .pre .2, s .pre .3)
 
 same-length : tie.Need-same-length
 same-length c = search needs
@@ -60,11 +56,8 @@ same-length-4 c = search needs
 same-length-5 : tie.Need-same-length-5
 same-length-5 c = search needs
 
-same-length-6 : tie.Need-same-length-6
-same-length-6 c = search needs
-
 returns-3 : tie.Need-returns-3
-returns-3 c = (λ x h. c .before .before .before .before .before .before .before .before .before .before .before .before .same-pieces .ensures .0 ∙ key-block h (c .before .before .before .before .before .before .before .before .before .before .before .before .before .before .before .before .before .before .before .before .before .before .before .before .before .before .before .before .before .before .before .before .before .args .pieces .now) (c .before .before .before .before .before .before .before .before .before .before .before .before .before .before .before .before .before .before .before .if2 .left), c .before .before .before .before .before .before .before .before .before .before .before .before .same-pieces .ensures .1)
+returns-3 c = (λ x h. c .before .before .before .before .before .before .before .before .before .before .same-pieces .ensures .0 ∙ key-block h (c .before .before .before .before .before .before .before .before .before .before .before .before .before .before .before .before .before .before .before .before .before .before .before .before .before .before .before .before .before .args .pieces .now) (c .before .before .before .before .before .before .before .before .before .before .before .before .before .before .before .before .if2 .left), c .before .before .before .before .before .before .before .before .before .before .same-pieces .ensures .1)
 
 pub is-key-spec : {M : Type 1} → statement M
 is-key-spec =
@@ -87,5 +80,4 @@ is-key-spec =
     same-length-3
     same-length-4
     same-length-5
-    same-length-6
     returns-3)

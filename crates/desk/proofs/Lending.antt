@@ -1,12 +1,16 @@
 -- What is lent to write labels, from the start of a loop on: it serves as before, and lengths are kept. Assumes nothing.
-use mathlib.Core.Path.{_≡_, refl, sym, _∙_}
+use mathlib.Core.Path.{_≡_, refl, _∙_}
 use mathlib.Core.List.{List}
-use Prim.Native.Nat.{ℕ, _≤_}
+use Prim.Native.Nat.{ℕ, _+_, _≤_}
 use native.Mathlib.Omega.{arith}
 use lib.ListN.{length}
 use Rattle.molecule.specs.Lists.{Bytes}
+use Rattle.molecule.specs.Connected.{Own, Connected}
+use Rattle.molecule.specs.Check.{check, accepted}
+use Rattle.canonize.specs.Label.{label}
 use Rattle.canonize.specs.Buffers.{Slots}
-use Rattle.memoize.specs.Stored.{Cached, Lent}
+use Rattle.canonize.proofs.Laws.{label-fits}
+use Rattle.desk.specs.Cached.{Cached, Lent}
 
 -- lent again after a call
 pub lent-next : {r : Bytes} {at desk arena lengths scratch own desk′ arena′ lengths′ scratch′ own′ : List ℕ} → Lent r at desk arena lengths scratch own → Cached r desk′ → Slots arena′ lengths′
@@ -42,3 +46,7 @@ using-next u c s a b d e f g = record {
   own-long = f ∙ u .own-long;
   other-long = g ∙ u .other-long;
 }
+
+-- a label fits a buffer that is lent for it
+pub label-room : (r : Bytes) (x : ℕ) (out : List ℕ) → check r ≡ accepted → Own r x → Connected r x → 389 ≤ length out → 0 + length (label r x) ≤ length out
+label-room r x out a o k h = omega (arith, label-fits r x a o k)

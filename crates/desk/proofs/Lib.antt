@@ -1,0 +1,3 @@
+-- The theory of the desk.
+pub mod Caching
+pub mod Lending

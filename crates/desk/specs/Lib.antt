@@ -1,0 +1,2 @@
+-- The desk as the lent words keep it.
+pub mod Cached
