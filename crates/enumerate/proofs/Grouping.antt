@@ -7,33 +7,37 @@ use Prim.Native.Nat.{ℕ, zero, suc, _+_, _-_, _*_, _≤_, _<_}
 use native.Mathlib.Decide.{ℕ-discrete, decLt}
 use native.Mathlib.Numerals.{add-one}
 use native.Mathlib.Omega.{arith}
-use lib.ListN.{length, getD, set, drop, length-set, drop-of-length-le}
-use lib.Seq.{drop-cons, getD-set-same, getD-set-other}
+use lib.ListN.{length, getD, set, take, drop, replicate, length-append, length-replicate, length-take, length-drop, length-set, drop-of-length-le, List·getD-append}
+use lib.Seq.{drop-cons, length-take-le, getD-take, getD-append-add, getD-set-same, getD-set-other}
 use Rattle.molecule.specs.Lists.{Bytes, fold}
 use Rattle.molecule.specs.Connected.{Own, Connected}
+use Rattle.molecule.proofs.Lists.{zeros-at}
 use Rattle.canonize.specs.Strings.{lexLe, same}
 use Rattle.canonize.specs.Label.{label}
 use Rattle.canonize.proofs.Comparing.{same-iff}
 use Rattle.canonize.proofs.Laws.{le-refl}
 use Rattle.matches.specs.Table.{Group, place, groups}
 use Rattle.enumerate.specs.Found.{Found}
-use Rattle.enumerate.specs.Grouped.{groupAt, Chain, ends, then, Keyed, Grouped, Ready, Outside, keyAt, Firsts, Position, Opened, joined, Placing, Placed}
-use Rattle.enumerate.proofs.Placing.{putAt, put-length, put-before, put-this, put-after, Side, side, keysOf, grownGroup, newGroup, place-join, place-open, join-this, join-other, keyed-join, keyed-open}
+use Rattle.enumerate.specs.Grouped.{groupAt, Chain, ends, then, Keyed, Grouped, Ready, Around, Outside, keyAt, Firsts, Position, Opened, joined, Hints, Moved, Placing, Placed}
+use Rattle.enumerate.proofs.Placing.{position-of, putAt, put-length, put-before, put-this, put-after, Side, side, keysOf, grownGroup, newGroup, place-join, place-open, join-this, join-other, keyed-join, keyed-open}
 
 -- ---- what is not written
 
-pub outside-same : (l : List ℕ) (p : ℕ) → Outside l l p
-outside-same l p = record { long = refl; low = λ i h. refl; high = λ i h. refl }
+pub around-same : (l : List ℕ) (p : ℕ) → Around l l p
+around-same l p = record { long = refl; low = λ i h. refl; middle = λ i h k. refl }
 
-pub outside-then : {k l m : List ℕ} {p : ℕ} → Outside k l p → Outside l m p → Outside k m p
-outside-then v w = record {
+pub outside-around : {old now : List ℕ} {p : ℕ} → Outside old now p → Around old now p
+outside-around o = record { long = o .long; low = o .low; middle = λ i h k. o .high i h }
+
+pub around-then : {k l m : List ℕ} {p : ℕ} → Around k l p → Around l m p → Around k m p
+around-then v w = record {
   long = w .long ∙ v .long;
   low = λ i h. w .low i h ∙ v .low i h;
-  high = λ i h. w .high i h ∙ v .high i h;
+  middle = λ i h k. w .middle i h k ∙ v .middle i h k;
 }
 
-pub found-outside : {old now : List ℕ} {p : ℕ} {l : List ℕ} → Outside old now p → Found old p l → Found now p l
-found-outside {p = p} o f = record {
+pub found-around : {old now : List ℕ} {p : ℕ} {l : List ℕ} → Around old now p → Found old p l → Found now p l
+found-around {p = p} o f = record {
   some = f .some;
   wide = omega (arith, o .long, f .wide);
   fits = f .fits;
@@ -42,8 +46,8 @@ found-outside {p = p} o f = record {
   last = λ h k. o .low (3 * p + h) (omega arith) ∙ f .last h k;
 }
 
-pub ready-outside : {r : Bytes} {old now : List ℕ} {p : ℕ} {l : List ℕ} → Outside old now p → Ready r old p l → Ready r now p l
-ready-outside o w = record { found = found-outside o (w .found); wide = omega (arith, o .long, w .wide); own = w .own; connected = w .connected }
+pub ready-around : {r : Bytes} {old now : List ℕ} {p : ℕ} {l : List ℕ} → Around old now p → Ready r old p l → Ready r now p l
+ready-around o w = record { found = found-around o (w .found); wide = omega (arith, o .long, w .wide); own = w .own; connected = w .connected }
 
 -- ---- chains
 
@@ -125,6 +129,12 @@ module _ (parts : List ℕ) (p f i : ℕ) (wide : 7 * p ≤ length parts) (one :
     high = λ m h. join-word m (λ q. omega (arith, q, h, end)) (λ q. omega (arith, q, h)) (λ q. omega (arith, q, h));
   }
 
+  pub moved-join : (g : ℕ) → g ≤ p → Moved parts (joined parts p f i) p g g i
+  moved-join g few = record {
+    still = λ k h. (k, h, join-word (4 * p + k) (λ q. omega (arith, q, h)) (λ q. omega (arith, q, h)) (λ q. omega (arith, q, h)));
+    new = λ n. absurd (n refl);
+  }
+
 -- ---- a group is opened
 
 -- the groups from j on have gone one up
@@ -188,6 +198,100 @@ module _ (old now : List ℕ) (p g j : ℕ) (w : Shifting old now p g j) where
       lasts = λ m h. word (6 * p + m) (λ q. omega (arith, q, h)) (λ q. omega (arith, q, h)) (λ q. omega (arith, q, h)) ∙ w .above (6 * p + m) (omega (arith, h));
     }
 
+pub moved-open : {old now : List ℕ} {p g k i : ℕ} → k ≤ g → Opened old now p g k i → Moved old now p g (g + 1) i
+moved-open {old} {now} {p} {g} {k} {i} b o = record { still = λ j h. go j h (decLt j k); new = λ n. (k, omega arith, o .first) }
+  where
+    go : (j : ℕ) → j < g → Dec (j < k) → (m : ℕ) × (m < g + 1) × (getD now (4 * p + m) 0 ≡ getD old (4 * p + j) 0)
+    go j h (yes l) = (j, omega arith, o .before j l)
+    go j h (no l) = (suc j, omega arith, o .after j (omega arith) h)
+
+-- ---- hints
+
+pub hints-moved : {old now : List ℕ} {p g n i m : ℕ} → Outside old now p → Moved old now p g n i → Hints old p g m → Hints now p n m
+hints-moved {p = p} o v w = record {
+  first = λ j f h e.
+      let u = w .first j f h (sym (o .high (9 * p + j) (omega arith)) ∙ e) in
+      let t = v .still (u .0) (u .1) in
+      (t .0, t .1, u .2 ∙ sym (t .2));
+}
+
+-- m words from region 9 on become 0
+module _ (parts : List ℕ) (p m : ℕ) (zeros : List ℕ) (wide : 13 * p ≤ length parts) (room : m ≤ 4 * p) (is : zeros ≡ replicate (length (take (9 * p + m - 9 * p) (drop (9 * p) parts))) 0) where
+  abbrev n : ℕ
+  n = 9 * p + m - 9 * p
+
+  size : n ≡ m
+  size = omega arith
+
+  abbrev forgot : List ℕ
+  forgot = take (9 * p) parts ++ (zeros ++ drop n (drop (9 * p) parts))
+
+  before-long : length (take (9 * p) parts) ≡ 9 * p
+  before-long = length-take-le (9 * p) parts (omega arith)
+
+  zeros-long : length zeros ≡ m
+  zeros-long = rw (is, length-replicate) (simp (length-take, length-drop) (omega (arith, wide, room, size)))
+
+  forgot-word : (i : ℕ) → i < 9 * p → getD forgot i 0 ≡ getD parts i 0
+  forgot-word i h = List·getD-append (take (9 * p) parts) (zeros ++ drop n (drop (9 * p) parts)) 0 i (omega (arith, before-long, h)) ∙ getD-take (9 * p) parts i 0 h
+
+  forgot-none : (j : ℕ) → j < m → getD forgot (9 * p + j) 0 ≡ 0
+  forgot-none j h =
+      let e : 9 * p + j ≡ length (take (9 * p) parts) + j = omega (arith, before-long) in
+      ap (λ (i : ℕ). getD forgot i 0) e
+      ∙ getD-append-add (take (9 * p) parts) (zeros ++ drop n (drop (9 * p) parts)) j 0
+      ∙ List·getD-append zeros (drop n (drop (9 * p) parts)) 0 j (omega (arith, zeros-long, h))
+      ∙ ap (λ (l : List ℕ). getD l j 0) is
+      ∙ zeros-at (length (take n (drop (9 * p) parts))) j
+
+  pub forgot-around : Around parts forgot p
+  forgot-around = record {
+    long = simp (length-append, length-drop) (omega (arith, before-long, zeros-long, wide, room, size));
+    low = λ i h. forgot-word i (omega arith);
+    middle = λ i h k. forgot-word i k;
+  }
+
+  pub forgot-hints : Hints forgot p 0 m
+  forgot-hints = record { first = λ j f h e. absurd (omega (arith, e, forgot-none j h)) }
+
+-- the hint j becomes y
+module _ (parts : List ℕ) (p j y : ℕ) where
+  abbrev noted : List ℕ
+  noted = set parts (9 * p + j) y
+
+  noted-word : (m : ℕ) → m < 9 * p → getD noted m 0 ≡ getD parts m 0
+  noted-word m h = getD-set-other parts (9 * p + j) m y 0 (λ q. omega (arith, q, h))
+
+  pub around-noted : Around parts noted p
+  around-noted = record { long = length-set parts (9 * p + j) y; low = λ m h. noted-word m (omega arith); middle = λ m h k. noted-word m k }
+
+  pub hints-noted : (m n i : ℕ) → y ≡ i + 1 → 9 * p + j < length parts → n ≤ p → (k : ℕ) × (k < n) × (getD parts (4 * p + k) 0 ≡ i) → Hints parts p n m → Hints noted p n m
+  hints-noted m n i is wide few new w = record { first = λ a f h e. go a f h e (ℕ-discrete a j) }
+    where
+      first-at : (k : ℕ) → k < n → getD noted (4 * p + k) 0 ≡ getD parts (4 * p + k) 0
+      first-at k h = noted-word (4 * p + k) (omega arith)
+
+      go : (a f : ℕ) → a < m → getD noted (9 * p + a) 0 ≡ suc f → Dec (a ≡ j) → (k : ℕ) × (k < n) × (f ≡ getD noted (4 * p + k) 0)
+      go a f h e (yes q) =
+          let e₁ : getD noted (9 * p + j) 0 ≡ suc f = rw q at e in
+          (new .0, new .1, omega (arith, e₁, getD-set-same parts (9 * p + j) y 0 wide, is, new .2, first-at (new .0) (new .1)))
+      go a f h e (no q) =
+          let u = w .first a f h (sym (getD-set-other parts (9 * p + j) (9 * p + a) y 0 (λ z. q (omega (arith, z)))) ∙ e) in
+          (u .0, u .1, u .2 ∙ sym (first-at (u .0) (u .1)))
+
+  pub placed-noted : {r : Bytes} {l : List ℕ} {i : ℕ} {gs : List Group} {g : ℕ} {x : Bytes} → i < p → Placed r parts p l i gs g x → Placed r noted p l i gs g x
+  placed-noted {r} {l} {i} {gs} {g} {x} room w = record {
+    grouped = record { few = w .grouped .few; keyed = w .grouped .keyed; chains = chain };
+    count = w .count;
+  }
+    where
+      chain : (k : ℕ) → k < length (place gs (getD l i 0) x) → Chain noted p l (i + 1) (getD noted (4 * p + k) 0) (groupAt (place gs (getD l i 0) x) k .sets) (getD noted (6 * p + getD noted (4 * p + k) 0) 0)
+      chain k h =
+          let c = w .grouped .chains k h in
+          let a : getD noted (4 * p + k) 0 ≡ getD parts (4 * p + k) 0 = noted-word (4 * p + k) (omega (arith, w .grouped .few)) in
+          let e : getD noted (6 * p + getD noted (4 * p + k) 0) 0 ≡ getD parts (6 * p + getD parts (4 * p + k) 0) 0 = rw a (noted-word (6 * p + getD parts (4 * p + k) 0) (omega (arith, chain-rise c, chain-below c))) in
+          chain-cast a refl e (chain-same noted (i + 1) (omega arith) c (λ m b u. noted-word (5 * p + m) (omega arith)))
+
 -- ---- a candidate goes to its group
 
 mem-at : (l : List ℕ) (i : ℕ) → i < length l → List·Memᴰ (getD l i 0) l
@@ -216,6 +320,9 @@ module _ (r : Bytes) (parts : List ℕ) (p : ℕ) (l : List ℕ) (i : ℕ) (gs :
   pub placing-room : i < p
   placing-room = omega (arith, w .more, w .ready .found .fits)
 
+  pub placing-wide : 7 * p ≤ length parts
+  placing-wide = omega (arith, w .ready .wide)
+
   pub placing-few : g ≤ i
   placing-few = omega (arith, w .grouped .few, w .count)
 
@@ -237,13 +344,17 @@ module _ (r : Bytes) (parts : List ℕ) (p : ℕ) (l : List ℕ) (i : ℕ) (gs :
 
   pub placing-firsts : Firsts r parts p g
   placing-firsts = record {
-    wide = w .ready .wide;
+    wide = placing-wide;
     few = omega (arith, placing-few, placing-room);
     within = λ k h. omega (arith, placing-first k h, placing-room);
     own = λ k h. rw (set-at k h) (w .ready .own (getD l (f k) 0) (member k h));
     connected = λ k h. rw (set-at k h) (w .ready .connected (getD l (f k) 0) (member k h));
     ascend = λ j k a h. rw (key-at k h, key-at j (omega arith)) (w .grouped .keyed .ascend j k a (omega (arith, w .count)));
   }
+
+  -- a group whose first member has the label is the label's place
+  pub placing-position : (k : ℕ) → k < g → same x (keyAt r parts p k) ≡ true → Position (keyAt r parts p) g x k
+  placing-position = position-of (keyAt r parts p) g x (placing-firsts .ascend)
 
   -- members of different groups are different candidates
   apart : (j k a b : ℕ) → j < g → k < g → j ≢ k → List·Memᴰ (getD l a 0) (groupAt gs j .sets) → List·Memᴰ (getD l b 0) (groupAt gs k .sets) → a ≢ b
@@ -277,7 +388,7 @@ module _ (r : Bytes) (parts : List ℕ) (p : ℕ) (l : List ℕ) (i : ℕ) (gs :
       more = set gs k (grownGroup (getD l i 0) x (groupAt gs k))
 
       same-word : (m : ℕ) → m ≢ 5 * p + getD parts (6 * p + f k) 0 → m ≢ 5 * p + i → m ≢ 6 * p + f k → getD now m 0 ≡ getD parts m 0
-      same-word = join-word parts p (f k) i (w .ready .wide) (omega (arith, placing-first k h, placing-room)) placing-room (omega (arith, placing-last k h, placing-room))
+      same-word = join-word parts p (f k) i placing-wide (omega (arith, placing-first k h, placing-room)) placing-room (omega (arith, placing-last k h, placing-room))
 
       first-same : (j : ℕ) → j < g → getD now (4 * p + j) 0 ≡ f j
       first-same j b = same-word (4 * p + j) (λ q. omega (arith, q, b, placing-few, placing-room)) (λ q. omega (arith, q, b, placing-few, placing-room)) (λ q. omega (arith, q, b, placing-few, placing-room))
@@ -292,11 +403,11 @@ module _ (r : Bytes) (parts : List ℕ) (p : ℕ) (l : List ℕ) (i : ℕ) (gs :
       chains-of j b (yes q) =
           let c : Chain now p l (i + 1) (f k) (groupAt gs k .sets ++ (getD l i 0 ∷ [])) i =
           chain-grow now (chain k h) (λ m d n. same-word (5 * p + m) (λ z. n (omega (arith, z))) (λ z. omega (arith, z, d)) (λ z. omega (arith, z, d, placing-room)))
-          (join-link parts p (f k) i (w .ready .wide) (omega (arith, placing-first k h, placing-room)) placing-room (omega (arith, placing-last k h, placing-room)) (λ z. omega (arith, z, placing-last k h)))
-          (join-end parts p (f k) i (w .ready .wide) (omega (arith, placing-first k h, placing-room)) placing-room (omega (arith, placing-last k h, placing-room))) in
+          (join-link parts p (f k) i placing-wide (omega (arith, placing-first k h, placing-room)) placing-room (omega (arith, placing-last k h, placing-room)) (λ z. omega (arith, z, placing-last k h)))
+          (join-end parts p (f k) i placing-wide (omega (arith, placing-first k h, placing-room)) placing-room (omega (arith, placing-last k h, placing-room))) in
           let a : getD now (4 * p + j) 0 ≡ f k = rw q (first-same k h) in
           let s : groupAt more j .sets ≡ groupAt gs k .sets ++ (getD l i 0 ∷ []) = rw q (ap (λ (z : Group). z .sets) (join-this r gs (w .grouped .keyed) (getD l i 0) x (w .its) k here (same-iff x (keysOf gs k) .0 equal))) in
-          let e : getD now (6 * p + getD now (4 * p + j) 0) 0 ≡ i = rw a (join-last parts p (f k) i (w .ready .wide) (omega (arith, placing-first k h, placing-room)) placing-room (omega (arith, placing-last k h, placing-room))) in
+          let e : getD now (6 * p + getD now (4 * p + j) 0) 0 ≡ i = rw a (join-last parts p (f k) i placing-wide (omega (arith, placing-first k h, placing-room)) placing-room (omega (arith, placing-last k h, placing-room))) in
           chain-cast a s e c
       chains-of j b (no n) =
           let c : Chain now p l (i + 1) (f j) (groupAt gs j .sets) (getD parts (6 * p + f j) 0) =
@@ -392,12 +503,12 @@ module _ (r : Bytes) (l : List ℕ) (p : ℕ) where
     pub grouping-placing : i < length l → (x : Bytes) → x ≡ label r (getD now (p + i) 0) → Placing r now p l i (w .list) g x
     grouping-placing h x e = record { ready = w .ready; grouped = w .grouped; count = w .count; more = h; its = e ∙ ap (label r) (w .ready .found .sets i h) }
 
-    pub grouping-next : i < length l → (x : Bytes) → x ≡ label r (getD now (p + i) 0) → (next : List ℕ) (m : ℕ) → Outside now next p → Placed r next p l i (w .list) m x → Grouping r l next p (i + 1) m
+    pub grouping-next : i < length l → (x : Bytes) → x ≡ label r (getD now (p + i) 0) → (next : List ℕ) (m : ℕ) → Around now next p → Placed r next p l i (w .list) m x → Grouping r l next p (i + 1) m
     grouping-next h x e next m o q =
         let z : x ≡ label r (getD l i 0) = e ∙ ap (label r) (w .ready .found .sets i h) in
         record {
           list = place (w .list) (getD l i 0) x;
-          ready = ready-outside o (w .ready);
+          ready = ready-around o (w .ready);
           grouped = q .grouped;
           count = q .count;
           left = rw (z, add-one i) (ap (fold (λ gs y. place gs y (label r y)) (w .list)) (sym (drop-cons l i 0 h)) ∙ w .left);

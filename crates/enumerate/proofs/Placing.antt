@@ -46,6 +46,12 @@ module _ (keys : ℕ → Bytes) (g : ℕ) (x : Bytes) where
   pub searching-start : Searching keys g x 0 g
   searching-start = record { ordered = omega arith; within = omega arith; before = λ j h. absurd (omega arith); after = λ h. absurd (omega arith) }
 
+  -- where the label is a key, that is its place
+  pub position-of : ((j k : ℕ) → j < k → k < g → lexLe (keys k) (keys j) ≡ false) → (k : ℕ) → k < g → same x (keys k) ≡ true → Position keys g x k
+  position-of ascend k h t =
+      let e : x ≡ keys k = same-iff x (keys k) .0 t in
+      record { within = omega arith; before = λ j i. rw e (ascend j k i h); after = λ i. rw e (le-refl (keys k)) }
+
   module _ (low high : ℕ) (w : Searching keys g x low high) where
     pub searching-up : ((j k : ℕ) → j < k → k < g → lexLe (keys k) (keys j) ≡ false) → (m : ℕ) → m < high → lexLe x (keys m) ≡ false → Searching keys g x (m + 1) high
     searching-up ascend m h f = record { ordered = omega arith; within = w .within; before = λ j k. go j (ℕ-discrete j m) k (two (lexLe x (keys j))); after = w .after }

@@ -1,13 +1,14 @@
 -- The candidates grouped by label as the lent table keeps them, in regions of p words: region 4 for each group, in ascending order of labels, the index of its first member,
--- 5 for each candidate 1 more than the index of the next member of its group, 0 for none, 6 for each first member the index of the last member of its group.
+-- 5 for each candidate 1 more than the index of the next member of its group, 0 for none, 6 for each first member the index of the last member of its group; and 9 to 12 the hints.
 use mathlib.Core.Path.{_≡_}
+use mathlib.Core.Logic.{_≢_}
 use mathlib.Core.Bool.{true, false}
 use mathlib.Core.List.{List, [], _∷_, List·Memᴰ}
 use Prim.Native.Nat.{ℕ, suc, _+_, _*_, _≤_, _<_}
 use lib.ListN.{length, getD, set}
 use Rattle.molecule.specs.Lists.{Bytes}
 use Rattle.molecule.specs.Connected.{Own, Connected}
-use Rattle.canonize.specs.Strings.{lexLe}
+use Rattle.canonize.specs.Strings.{lexLe, same}
 use Rattle.canonize.specs.Label.{label}
 use Rattle.matches.specs.Table.{Group, place}
 use Rattle.enumerate.specs.Found.{Found}
@@ -35,9 +36,15 @@ pub record Grouped (r : Bytes) (parts : List ℕ) (p : ℕ) (l : List ℕ) (n : 
 -- the table holds the candidates l, fragments of the record, and has room for their groups
 pub record Ready (r : Bytes) (parts : List ℕ) (p : ℕ) (l : List ℕ) : Type 0 where
   pub found : Found parts p l
-  pub wide : 7 * p ≤ length parts
+  pub wide : 13 * p ≤ length parts
   pub own : (s : ℕ) → List·Memᴰ s l → Own r s
   pub connected : (s : ℕ) → List·Memᴰ s l → Connected r s
+
+-- nothing before region 9 is written but regions 4 to 6
+pub record Around (old now : List ℕ) (p : ℕ) : Type 0 where
+  pub long : length now ≡ length old
+  pub low : (i : ℕ) → i < 4 * p → getD now i 0 ≡ getD old i 0
+  pub middle : (i : ℕ) → 7 * p ≤ i → i < 9 * p → getD now i 0 ≡ getD old i 0
 
 -- nothing outside regions 4 to 6 is written
 pub record Outside (old now : List ℕ) (p : ℕ) : Type 0 where
@@ -80,6 +87,19 @@ pub record Opened (old now : List ℕ) (p g k i : ℕ) : Type 0 where
 -- candidate i put at the end of the group whose first member is f
 unfoldable pub joined : List ℕ → ℕ → ℕ → ℕ → List ℕ
 joined parts p f i = set (set (set parts (5 * p + getD parts (6 * p + f) 0) (i + 1)) (5 * p + i) 0) (6 * p + f) i
+
+-- each of the first m words from region 9 on is a hint: 0, or 1 more than the index of the first member of one of the g groups
+pub record Hints (parts : List ℕ) (p g m : ℕ) : Type 0 where
+  pub first : (j f : ℕ) → j < m → getD parts (9 * p + j) 0 ≡ suc f → (k : ℕ) × (k < g) × (f ≡ getD parts (4 * p + k) 0)
+
+-- the hint j leads to a group, whose first member has label x
+abbrev pub Leads : Bytes → List ℕ → ℕ → ℕ → ℕ → Bytes → Type 0
+Leads r parts p g j x = (k : ℕ) × (k < g) × (getD parts (9 * p + j) 0 ≡ suc (getD parts (4 * p + k) 0)) × (same x (keyAt r parts p k) ≡ true)
+
+-- there were g groups and are n: each first member is one still, and where they are not as many candidate i is one
+pub record Moved (old now : List ℕ) (p g n i : ℕ) : Type 0 where
+  pub still : (k : ℕ) → k < g → (j : ℕ) × (j < n) × (getD now (4 * p + j) 0 ≡ getD old (4 * p + k) 0)
+  pub new : n ≢ g → (j : ℕ) × (j < n) × (getD now (4 * p + j) 0 ≡ i)
 
 -- candidate i of l is to go to the groups gs, of which there are g
 pub record Placing (r : Bytes) (parts : List ℕ) (p : ℕ) (l : List ℕ) (i : ℕ) (gs : List Group) (g : ℕ) (x : Bytes) : Type 0 where

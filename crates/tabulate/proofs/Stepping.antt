@@ -23,7 +23,7 @@ use Rattle.molecule.proofs.Components.{words-at}
 use Rattle.molecule.proofs.Lists.{at-mem, any-some, length-list, list-at}
 use Rattle.matches.specs.Table.{Group, Table, candidates, groups, extend, sizes, singles}
 use Rattle.enumerate.specs.Found.{Kept, Counted, grownBy}
-use Rattle.enumerate.specs.Grouped.{groupAt, Keyed, Grouped, Ready, Outside}
+use Rattle.enumerate.specs.Grouped.{groupAt, Keyed, Grouped, Ready, Around}
 use Rattle.tabulate.specs.Noded.{nodesAfter, nodesOf, pairsIn, Beside, Groups, Grown, Cleared}
 use Rattle.matches.specs.Descending.{Akin, Starts}
 use Rattle.matches.specs.Written.{startIn}
@@ -32,7 +32,7 @@ use Rattle.matches.proofs.ByLabel.{before-differ, groups-every}
 use Rattle.matches.proofs.Pairing.{pairUp-grows}
 use Rattle.matches.proofs.Sizes.{Node, candidates-node, candidates-distinct, single-node}
 use Rattle.enumerate.proofs.Candidates.{grown-candidates}
-use Rattle.enumerate.proofs.Grouping.{found-outside}
+use Rattle.enumerate.proofs.Grouping.{found-around}
 use Rattle.tabulate.proofs.Noding.{pairUp-nodes, extend-nodes, extend-matches, after-length, cleared-found, noded-start, grouped-linked}
 use Rattle.tabulate.proofs.Fitting.{pairs-fit}
 use Rattle.tabulate.proofs.Stages.{parentsAt, nodes-suc, table-next, parents-kept, table-round, table-round-next}
@@ -247,7 +247,7 @@ module _ (r : Bytes) (ok : check r ≡ accepted) (parts : List ℕ) (p k from to
       }
 
       module _ (few : count ≤ p) where
-        pub sizing-wide : 9 * p ≤ length one
+        pub sizing-wide : 13 * p ≤ length one
         sizing-wide = omega (arith, v .0 .long, w .held .wide)
 
         pub sizing-count : length these ≡ count
@@ -262,7 +262,7 @@ module _ (r : Bytes) (ok : check r ≡ accepted) (parts : List ℕ) (p k from to
             connected = λ s m. candidate r k some s m .whole;
           }
 
-          module _ (three : List ℕ) (g : ℕ) (o : Outside two three p) (d : (g ≡ length (groups r these)) × Grouped r three p these count (groups r these)) where
+          module _ (three : List ℕ) (g : ℕ) (o : Around two three p) (d : (g ≡ length (groups r these)) × Grouped r three p these count (groups r these)) where
             grouped : Grouped r three p these (length these) (groups r these)
             grouped = subst (λ (n : ℕ). Grouped r three p these n (groups r these)) (counted .count few) (d .1)
 
@@ -273,8 +273,8 @@ module _ (r : Bytes) (ok : check r ≡ accepted) (parts : List ℕ) (p k from to
 
             pub sizing-groups : Groups three p these nodes (groups r these) g to
             sizing-groups = record {
-              noded = noded-start three p these nodes (found-outside o (sizing-ready .found)) (omega (arith, o .long, c .long, sizing-wide)) (candidates-distinct r (parentsAt r k)) (omega (arith, long, sizing-room)) number-at
-                  (λ i h. candidate-new r k some (getD these i 0) (at-mem 0 these i h)) (λ i h. o .high (7 * p + i) (omega arith) ∙ c .none i (omega (arith, sizing-count)));
+              noded = noded-start three p these nodes (found-around o (sizing-ready .found)) (omega (arith, o .long, c .long, sizing-wide)) (candidates-distinct r (parentsAt r k)) (omega (arith, long, sizing-room)) number-at
+                  (λ i h. candidate-new r k some (getD these i 0) (at-mem 0 these i h)) (λ i h. o .middle (7 * p + i) (omega arith) (omega (arith, sizing-count)) ∙ c .none i (omega (arith, sizing-count)));
               long = long;
               many = sym (d .0);
               few = omega (arith, d .0, grouped .few, sizing-count);
@@ -286,7 +286,7 @@ module _ (r : Bytes) (ok : check r ≡ accepted) (parts : List ℕ) (p k from to
               start-kept : (i : ℕ) → i < length nodes → startIn four p i ≡ startIn parts p i
               start-kept i h =
                   let l : i < p = omega (arith, long, sizing-room) in
-                  b .starts i (omega (arith, long)) l ∙ o .high (8 * p + i) (omega arith) ∙ c .high (8 * p + i) (omega arith) ∙ v .0 .rest (8 * p + i) (omega arith)
+                  b .starts i (omega (arith, long)) l ∙ o .middle (8 * p + i) (omega arith) (omega arith) ∙ c .high (8 * p + i) (omega arith) ∙ v .0 .rest (8 * p + i) (omega arith)
 
               all-of : n ≤ p → n ≡ nodesAt r (suc (suc k))
               all-of h = f .long h ∙ sym (nodes-suc r (suc k) ∙ ap (λ (l : List ℕ). length l) (next-nodes r k some))
@@ -330,7 +330,7 @@ pub record Laid (old now : List ℕ) (p i : ℕ) : Type 0 where
 pub laid-start : (old : List ℕ) (p : ℕ) → Laid old old p 0
 laid-start old p = record { long = refl; nodes = λ j h. absurd (omega arith); starts = λ j h. absurd (omega arith) }
 
-pub laid-next : (old now : List ℕ) (p i x : ℕ) → 9 * p ≤ length old → i < p → x ≡ 2 ^ i → Laid old now p i → Laid old (set (set now i x) (8 * p + i) i) p (i + 1)
+pub laid-next : (old now : List ℕ) (p i x : ℕ) → 13 * p ≤ length old → i < p → x ≡ 2 ^ i → Laid old now p i → Laid old (set (set now i x) (8 * p + i) i) p (i + 1)
 laid-next old now p i x wide h e w = record {
   long = length-set (set now i x) (8 * p + i) i ∙ once;
   nodes = λ j l. getD-set-other (set now i x) (8 * p + i) j i 0 (λ q. omega arith) ∙ node j l (ℕ-discrete j i);
@@ -348,7 +348,7 @@ laid-next old now p i x wide h e w = record {
     starting j l (yes q) = rw q (getD-set-same (set now i x) (8 * p + i) i 0 (omega (arith, once)))
     starting j l (no n) = getD-set-other (set now i x) (8 * p + i) (8 * p + j) i 0 (λ q. n (omega arith)) ∙ getD-set-other now i (8 * p + j) x 0 (λ q. omega arith) ∙ w .starts j (omega arith)
 
-module _ (r : Bytes) (old now : List ℕ) (p : ℕ) (w : Laid old now p (bonds r)) (some : 0 < p) (clamped : p ≤ 4294967295) (wide : 9 * p ≤ length old) (fits : bonds r ≤ p) where
+module _ (r : Bytes) (old now : List ℕ) (p : ℕ) (w : Laid old now p (bonds r)) (some : 0 < p) (clamped : p ≤ 4294967295) (wide : 13 * p ≤ length old) (fits : bonds r ≤ p) where
   singles-long : length (singles r) ≡ bonds r
   unfolding singles
   singles-long = length-list (λ (i : ℕ). 2 ^ i) 0 (bonds r)
@@ -379,6 +379,6 @@ module _ (r : Bytes) (old now : List ℕ) (p : ℕ) (w : Laid old now p (bonds r
       need (suc zero) h = fits
       need (suc (suc i)) h = absurd (omega arith)
 
-pub laid-held : (old now : List ℕ) (p n i : ℕ) → Laid old now p i → n ≤ i → 0 < p → p ≤ 4294967295 → 9 * p ≤ length old → n ≤ p → (r : Bytes) → bonds r ≡ n → Held r now p 0
+pub laid-held : (old now : List ℕ) (p n i : ℕ) → Laid old now p i → n ≤ i → 0 < p → p ≤ 4294967295 → 13 * p ≤ length old → n ≤ p → (r : Bytes) → bonds r ≡ n → Held r now p 0
 laid-held old now p n i w h some clamped wide fits r e =
     held-start r old now p (record { long = w .long; nodes = λ j l. w .nodes j (omega arith); starts = λ j l. w .starts j (omega arith) }) some clamped wide (omega arith)
