@@ -216,7 +216,7 @@ hints-moved {p = p} o v w = record {
 }
 
 -- m words from region 9 on become 0
-module _ (parts : List ℕ) (p m : ℕ) (zeros : List ℕ) (wide : 13 * p ≤ length parts) (room : m ≤ 4 * p) (is : zeros ≡ replicate (length (take (9 * p + m - 9 * p) (drop (9 * p) parts))) 0) where
+module _ (parts : List ℕ) (p m : ℕ) (zeros : List ℕ) (wide : 12 * p ≤ length parts) (room : m ≤ 3 * p) (is : zeros ≡ replicate (length (take (9 * p + m - 9 * p) (drop (9 * p) parts))) 0) where
   abbrev n : ℕ
   n = 9 * p + m - 9 * p
 

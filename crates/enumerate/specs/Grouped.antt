@@ -1,5 +1,5 @@
 -- The candidates grouped by label as the lent table keeps them, in regions of p words: region 4 for each group, in ascending order of labels, the index of its first member,
--- 5 for each candidate 1 more than the index of the next member of its group, 0 for none, 6 for each first member the index of the last member of its group; and 9 to 12 the hints.
+-- 5 for each candidate 1 more than the index of the next member of its group, 0 for none, 6 for each first member the index of the last member of its group; and 9 to 11 the hints.
 use mathlib.Core.Path.{_≡_}
 use mathlib.Core.Logic.{_≢_}
 use mathlib.Core.Bool.{true, false}
@@ -36,7 +36,7 @@ pub record Grouped (r : Bytes) (parts : List ℕ) (p : ℕ) (l : List ℕ) (n : 
 -- the table holds the candidates l, fragments of the record, and has room for their groups
 pub record Ready (r : Bytes) (parts : List ℕ) (p : ℕ) (l : List ℕ) : Type 0 where
   pub found : Found parts p l
-  pub wide : 13 * p ≤ length parts
+  pub wide : 12 * p ≤ length parts
   pub own : (s : ℕ) → List·Memᴰ s l → Own r s
   pub connected : (s : ℕ) → List·Memᴰ s l → Connected r s
 

@@ -1,6 +1,6 @@
 // The candidates grouped by label, groups ascending, members in order found. Regions of p words: 4 for each group the index of its first member, 5 for each
 // candidate 1 more than the index of the next member of its group, 0 for none, 6 for each first member the index of its group's last member,
-// 9 to 12 hints: at the slot of a label 1 more than the index of the first member of a group that may have that label, 0 for none.
+// 9 to 11 hints: at the slot of a label 1 more than the index of the first member of a group that may have that label, 0 for none.
 ghost use mathlib.Core.Path.{_≡_};
 ghost use mathlib.Core.Bool.{true};
 ghost use mathlib.Core.List.{List};
@@ -140,7 +140,7 @@ fn slot(label: &[u8], m: usize) -> usize
 
 // The m hints become 0.
 fn forget(parts: &mut [u64], p: usize, m: usize)
-    requires { ⌜ (13 * p ≤ length (now parts)) × (m ≤ 4 * p) ⌝ }
+    requires { ⌜ (12 * p ≤ length (now parts)) × (m ≤ 3 * p) ⌝ }
     ensures { λ _. ⌜ Around (now (parts .entry)) (now (parts .exit)) p × Hints (now (parts .exit)) p 0 m ⌝ }
 {
     clear::zero(&mut parts[9 * p..9 * p + m]);
@@ -191,7 +191,7 @@ fn place(
     other: &mut [u8],
 ) -> usize
     requires { ⌜ (check (now bytes) ≡ accepted) × (now at ≡ bondsAtWords (now bytes)) × ((l : List ℕ) × (gs : List Group) × Placing (now bytes) (now parts) p l i gs g (now label))
-        × Slots (now arena) (now lengths) × (384 ≤ length (now desk)) × (389 ≤ length (now other)) × (0 < m) × (m ≤ 4 * p) × Hints (now parts) p g m ⌝ }
+        × Slots (now arena) (now lengths) × (384 ≤ length (now desk)) × (389 ≤ length (now other)) × (0 < m) × (m ≤ 3 * p) × Hints (now parts) p g m ⌝ }
     ensures placed { λ r. ⌜ Around (now (parts .entry)) (now (parts .exit)) p × Hints (now (parts .exit)) p r m
         × ((l : List ℕ) (gs : List Group) → Placing (now (bytes .entry)) (now (parts .entry)) p l i gs g (now (label .entry)) → Placed (now (bytes .entry)) (now (parts .exit)) p l i gs r (now (label .entry))) ⌝ }
     ensures slots { λ r. ⌜ Slots (now (arena .exit)) (now (lengths .exit)) ⌝ }
@@ -254,7 +254,7 @@ pub fn group(
         → (r ≡ length (groups (now (bytes .entry)) l)) × Grouped (now (bytes .entry)) (now (parts .exit)) p l count (groups (now (bytes .entry)) l)) ⌝ }
     ensures slots { λ r. ⌜ Slots (now (arena .exit)) (now (lengths .exit)) ⌝ }
 {
-    let m = 4 * count;
+    let m = 3 * count;
     forget(parts, p, m);
     let mut g = 0;
     let mut i = 0;

@@ -247,7 +247,7 @@ module _ (r : Bytes) (ok : check r ≡ accepted) (parts : List ℕ) (p k from to
       }
 
       module _ (few : count ≤ p) where
-        pub sizing-wide : 13 * p ≤ length one
+        pub sizing-wide : 12 * p ≤ length one
         sizing-wide = omega (arith, v .0 .long, w .held .wide)
 
         pub sizing-count : length these ≡ count
@@ -330,7 +330,7 @@ pub record Laid (old now : List ℕ) (p i : ℕ) : Type 0 where
 pub laid-start : (old : List ℕ) (p : ℕ) → Laid old old p 0
 laid-start old p = record { long = refl; nodes = λ j h. absurd (omega arith); starts = λ j h. absurd (omega arith) }
 
-pub laid-next : (old now : List ℕ) (p i x : ℕ) → 13 * p ≤ length old → i < p → x ≡ 2 ^ i → Laid old now p i → Laid old (set (set now i x) (8 * p + i) i) p (i + 1)
+pub laid-next : (old now : List ℕ) (p i x : ℕ) → 12 * p ≤ length old → i < p → x ≡ 2 ^ i → Laid old now p i → Laid old (set (set now i x) (8 * p + i) i) p (i + 1)
 laid-next old now p i x wide h e w = record {
   long = length-set (set now i x) (8 * p + i) i ∙ once;
   nodes = λ j l. getD-set-other (set now i x) (8 * p + i) j i 0 (λ q. omega arith) ∙ node j l (ℕ-discrete j i);
@@ -348,7 +348,7 @@ laid-next old now p i x wide h e w = record {
     starting j l (yes q) = rw q (getD-set-same (set now i x) (8 * p + i) i 0 (omega (arith, once)))
     starting j l (no n) = getD-set-other (set now i x) (8 * p + i) (8 * p + j) i 0 (λ q. n (omega arith)) ∙ getD-set-other now i (8 * p + j) x 0 (λ q. omega arith) ∙ w .starts j (omega arith)
 
-module _ (r : Bytes) (old now : List ℕ) (p : ℕ) (w : Laid old now p (bonds r)) (some : 0 < p) (clamped : p ≤ 4294967295) (wide : 13 * p ≤ length old) (fits : bonds r ≤ p) where
+module _ (r : Bytes) (old now : List ℕ) (p : ℕ) (w : Laid old now p (bonds r)) (some : 0 < p) (clamped : p ≤ 4294967295) (wide : 12 * p ≤ length old) (fits : bonds r ≤ p) where
   singles-long : length (singles r) ≡ bonds r
   unfolding singles
   singles-long = length-list (λ (i : ℕ). 2 ^ i) 0 (bonds r)
@@ -379,6 +379,6 @@ module _ (r : Bytes) (old now : List ℕ) (p : ℕ) (w : Laid old now p (bonds r
       need (suc zero) h = fits
       need (suc (suc i)) h = absurd (omega arith)
 
-pub laid-held : (old now : List ℕ) (p n i : ℕ) → Laid old now p i → n ≤ i → 0 < p → p ≤ 4294967295 → 13 * p ≤ length old → n ≤ p → (r : Bytes) → bonds r ≡ n → Held r now p 0
+pub laid-held : (old now : List ℕ) (p n i : ℕ) → Laid old now p i → n ≤ i → 0 < p → p ≤ 4294967295 → 12 * p ≤ length old → n ≤ p → (r : Bytes) → bonds r ≡ n → Held r now p 0
 laid-held old now p n i w h some clamped wide fits r e =
     held-start r old now p (record { long = w .long; nodes = λ j l. w .nodes j (omega arith); starts = λ j l. w .starts j (omega arith) }) some clamped wide (omega arith)

@@ -21,7 +21,7 @@ module _ (r : Bytes) where
 
 -- parts holds the table after k sizes, all of which had room
 pub record Held (r : Bytes) (parts : List ℕ) (p k : ℕ) : Type 0 where
-  pub wide : 13 * p ≤ length parts
+  pub wide : 12 * p ≤ length parts
   pub some : 0 < p
   pub clamped : p ≤ 4294967295
   pub nodes : (i : ℕ) → i < nodesAt r (suc k) → getD parts i 0 ≡ getD (tableAt r k .nodes) i 0

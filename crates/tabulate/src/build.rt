@@ -64,7 +64,7 @@ fn walk(
     other: &mut [u8],
 ) -> End
     requires { ⌜ (check (now bytes) ≡ accepted) × (now at ≡ bondsAtWords (now bytes)) × (now touch ≡ touchingWords (now bytes))
-        × (n ≡ bonds (now bytes)) × (n ≤ p) × (p ≤ 4294967295) × (13 * p ≤ length (now parts))
+        × (n ≡ bonds (now bytes)) × (n ≤ p) × (p ≤ 4294967295) × (12 * p ≤ length (now parts))
         × Slots (now arena) (now lengths) × (384 ≤ length (now desk)) × (389 ≤ length (now own)) × (389 ≤ length (now other)) ⌝ }
     ensures { λ r. ⌜ Ended (now (bytes .entry)) (now (parts .exit)) p (r .over) (r .nodes) (r .matches) ⌝ }
 {
@@ -110,7 +110,7 @@ fn walk(
 
 // The same, with room for labels.
 fn grow(bytes: &[u8], parts: &mut [u64], p: usize, n: usize) -> End
-    requires { ⌜ (check (now bytes) ≡ accepted) × (n ≡ bonds (now bytes)) × (n ≤ p) × (p ≤ 4294967295) × (13 * p ≤ length (now parts)) ⌝ }
+    requires { ⌜ (check (now bytes) ≡ accepted) × (n ≡ bonds (now bytes)) × (n ≤ p) × (p ≤ 4294967295) × (12 * p ≤ length (now parts)) ⌝ }
     ensures { λ r. ⌜ Ended (now (bytes .entry)) (now (parts .exit)) p (r .over) (r .nodes) (r .matches) ⌝ }
 {
     let at = graph::bonds_at(bytes);

@@ -15,7 +15,7 @@ use enumerate::groups;
 
 // The n single bonds are the nodes, each alone in its group.
 pub fn start(parts: &mut [u64], p: usize, n: usize)
-    requires { ⌜ (0 < p) × (n ≤ p) × (n ≤ 64) × (13 * p ≤ length (now parts)) × (p ≤ 4294967295) ⌝ }
+    requires { ⌜ (0 < p) × (n ≤ p) × (n ≤ 64) × (12 * p ≤ length (now parts)) × (p ≤ 4294967295) ⌝ }
     ensures { λ _. ⌜ ((r : Bytes) → bonds r ≡ n → Held r (now (parts .exit)) p 0) ⌝ }
 {
     let mut i = 0;
