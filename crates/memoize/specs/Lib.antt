@@ -1,2 +1,2 @@
--- The search's memo as the lent tables keep it.
+-- The search's memo as the lent table keeps it.
 pub mod Stored

@@ -1,5 +1,5 @@
--- The search's memo as the lent tables keep it. Entry i of the memo table is its 80 words from 80 * i on: 0 to 31 its pieces and after them its removals, 32 to 63 the hashes of
--- its pieces' labels, 64 how many pieces, 65 how many removals, 66 the index, 67 the sum of the hashes, 68 one more than the entry before it in its bucket, 0 for none.
+-- The search's memo as the lent table keeps it. Entry i is its 80 words from 80 * i on: 0 to 31 sets that stand for its pieces and after them its removals, 32 to 63 the hashes of
+-- the sets' labels, 64 how many pieces, 65 how many removals, 66 the index, 67 the sum of the hashes, 68 one more than the entry before it in its bucket, 0 for none.
 -- Word 69 is of bucket i: one more than its last entry, 0 for none. An entry's bucket is its sum modulo the number of entries that have room.
 use mathlib.Core.Path.{_≡_}
 use mathlib.Core.Logic.{_≢_}

@@ -1,5 +1,5 @@
-// The search's memo (src/memoize.rs): entries of 80 words in the lent table, found by a hash of the piece labels and settled by the labels. For a piece an entry has a set that stands
-// for it (desk), so that the same set settles most questions. specs/Stored.antt has the layout of the table.
+// The search's memo (src/memoize.rs): entries of 80 words in the lent table, found by a hash of the piece labels and settled by the labels. An entry has sets that stand for its pieces
+// (crate desk), so that most labels are settled by comparing sets. specs/Stored.antt has the layout of the table.
 ghost use mathlib.Core.Path.{_≡_};
 ghost use mathlib.Core.Bool.{true, not, _||_};
 ghost use mathlib.Core.List.{List, map};
