@@ -3,7 +3,7 @@ use mathlib.Core.Path.{_≡_, refl, sym, ap, _∙_}
 use mathlib.Core.Logic.{_⊎_, inl, inr, _≢_}
 use mathlib.Core.Bool.{Bool, true, false}
 use mathlib.Core.List.{List, [], _∷_, _++_}
-use Prim.Native.Nat.{ℕ, zero, suc, _+_, _-_, _*_, _%_, _≤_, _<_}
+use Prim.Native.Nat.{ℕ, zero, suc, _+_, _-_, _*_, _/_, _%_, _≤_, _<_}
 use native.Mathlib.Nat.{mod-lt}
 use native.Mathlib.Decide.{ℕ-discrete}
 use native.Mathlib.Omega.{arith}
@@ -20,7 +20,7 @@ use Rattle.enumerate.specs.Found.{bucketOf, lastIn, Found, Kept, Counted
 
 pub bucket-lt : (x p : ℕ) → 0 < p → bucketOf x p < p
 unfolding bucketOf
-bucket-lt x p h = mod-lt (x % 4294967291) h
+bucket-lt x p h = mod-lt (x % 4294967291 * 2654435761 / 4294967296) h
 
 module _ (l : List ℕ) (p h : ℕ) where
   last-here : (n : ℕ) → bucketOf (getD l n 0) p ≡ h → lastIn l p h (suc n) ≡ suc n

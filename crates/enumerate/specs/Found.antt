@@ -2,7 +2,7 @@
 use mathlib.Core.Path.{_≡_}
 use mathlib.Core.Bool.{true, false}
 use mathlib.Core.List.{List, map}
-use Prim.Native.Nat.{ℕ, zero, suc, _+_, _*_, _%_, _^_, _≤_, _<_}
+use Prim.Native.Nat.{ℕ, zero, suc, _+_, _*_, _/_, _%_, _^_, _≤_, _<_}
 use lib.ListN.{length, getD}
 use lib.Dec.{eqb}
 use Rattle.bitset.specs.Bits.{members}
@@ -12,7 +12,7 @@ use Rattle.matches.specs.Table.{note}
 
 -- the bucket of set x
 unfoldable pub bucketOf : ℕ → ℕ → ℕ
-bucketOf x p = x % 4294967291 % p
+bucketOf x p = x % 4294967291 * 2654435761 / 4294967296 % p
 
 -- 1 more than the last index below n of the list whose set is in bucket h, and 0 for none
 unfoldable pub lastIn : List ℕ → ℕ → ℕ → ℕ → ℕ

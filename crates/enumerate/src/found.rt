@@ -26,7 +26,7 @@ fn bucket(x: u64, p: usize) -> usize
     requires { ⌜ 0 < p ⌝ }
     ensures { λ r. ⌜ (r ≡ bucketOf x p) × (r < p) ⌝ }
 {
-    (x % 4_294_967_291 % (p as u64)) as usize
+    (x % 4_294_967_291 * 2_654_435_761 / 4_294_967_296 % (p as u64)) as usize
 }
 
 // Whether x is among them.
