@@ -1,4 +1,4 @@
--- The groups in the lent table: chains of members, a group that is joined, a group that is opened, and the candidates one at a time. Assumes nothing.
+-- The groups in the lent table: chains of members, a group that is joined, a group that is opened, hints, and the candidates one at a time. Assumes nothing.
 use mathlib.Core.Path.{_≡_, refl, sym, ap, _∙_}
 use mathlib.Core.Logic.{_⊎_, inl, inr, _≢_}
 use mathlib.Core.Bool.{true, false, false≢true}

@@ -1,5 +1,5 @@
 -- The candidates grouped by label as the lent table keeps them, in regions of p words: region 4 for each group, in ascending order of labels, the index of its first member,
--- 5 for each candidate 1 more than the index of the next member of its group, 0 for none, 6 for each first member the index of the last member of its group; and 9 to 11 the hints.
+-- 5 for each candidate 1 more than the index of the next member of its group, 0 for none, 6 for each first member the index of the last member of its group, 9 to 11 hints: for a label 1 more than the index of the first member of a group, 0 for none.
 use mathlib.Core.Path.{_≡_}
 use mathlib.Core.Logic.{_≢_}
 use mathlib.Core.Bool.{true, false}
@@ -40,7 +40,7 @@ pub record Ready (r : Bytes) (parts : List ℕ) (p : ℕ) (l : List ℕ) : Type 
   pub own : (s : ℕ) → List·Memᴰ s l → Own r s
   pub connected : (s : ℕ) → List·Memᴰ s l → Connected r s
 
--- nothing before region 9 is written but regions 4 to 6
+-- nothing outside regions 4 to 6 and from 9 on is written
 pub record Around (old now : List ℕ) (p : ℕ) : Type 0 where
   pub long : length now ≡ length old
   pub low : (i : ℕ) → i < 4 * p → getD now i 0 ≡ getD old i 0

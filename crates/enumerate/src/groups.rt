@@ -130,12 +130,18 @@ fn place_by_order(
     g + 1
 }
 
-// The slot of a label among m hints.
+// The slot of a label among m hints: a number that depends on all bytes and takes little time.
 fn slot(label: &[u8], m: usize) -> usize
     requires { ⌜ 0 < m ⌝ }
     ensures { λ r. ⌜ r < m ⌝ }
 {
-    compare::hash(label) as usize % m
+    let mut h: u64 = 0;
+    let mut i = 0;
+    while i < label.len() {
+        h = (h + label[i] as u64) * 10_000_019 % 1_099_511_627_776;
+        i += 1;
+    }
+    (h / 65_536) as usize % m
 }
 
 // The m hints become 0.
