@@ -5,6 +5,7 @@ use mathlib.Core.Bool.{Bool, true, false, not, _||_}
 use mathlib.Core.List.{List, [], _∷_, _++_, flatMap, List·Memᴰ as Mem, List·Memᴰ·head as m-head, List·Memᴰ·tail as m-tail, List·Memᴰ·cases-cons as mem-cons, List·Memᴰ·not-nil as not-nil, List·Memᴰ·append-cases as mem-cases, List·Memᴰ·eq-of-singleton as mem-one}
 use Prim.Native.Nat.{ℕ, zero, suc, _+_, _-_, _*_, _^_, _≤_, _<_}
 use native.Mathlib.Omega.{arith}
+use native.Mathlib.Nat.{sub-zero}
 use native.Mathlib.Numerals.{add-one}
 use lib.Bits.{bitAnd, bitOr}
 use lib.Dec.{leb, eqb}
@@ -29,7 +30,7 @@ use Rattle.matches.specs.Table.{Pair, pair, sizeOf, pairs}
 use Rattle.matches.specs.Laws.{Twins, Laws}
 use Rattle.matches.proofs.Laws.{table-laws}
 use Rattle.search.specs.Setting.{Setting, hasMatchableEdges}
-use Rattle.search.specs.State.{State, struck, bigComponents, removable, maskOf, keep, remove, child}
+use Rattle.search.specs.State.{State, inside, struck, bigComponents, removable, maskOf, keep, remove, child}
 use Rattle.search.specs.Search.{tried}
 use Rattle.search.specs.Claims.{Removable, Fine, heldOf}
 use Rattle.search.proofs.Lists.{inside-true, refines-within, flat-mem}
@@ -41,8 +42,8 @@ use Rattle.state.specs.Views.{stateOf}
 use Rattle.state.specs.Pieces.{bondsOf, bondsLeft, Big, Owned, Held, Chosen}
 use Rattle.state.specs.Scan.{Owners, Scanning, Told, goes}
 use Rattle.branch.specs.Entered.{Searched, Entered}
-use Rattle.branch.specs.Branching.{leastTried, triedFrom, Turn, Chooses, Below}
-use Rattle.state.proofs.Scanning.{removable-in, removable-out, removable-end}
+use Rattle.branch.specs.Branching.{leastTried, Passes, triedFrom, Turn, Chooses, Below}
+use Rattle.state.proofs.Scanning.{inside-whole, removable-in, removable-out, removable-end, told-out}
 
 -- ---- lists
 
@@ -161,6 +162,42 @@ module _ (r : Bytes) (ms : List Pair) (M : Laws r ms) (pieces : List ℕ) (least
 
   pub end-turn : (i : ℕ) → i ≡ length ms → Turn ms pieces least i
   end-turn i e = record { within = omega arith; removes = λ h. absurd (omega arith); large = λ h. absurd (omega arith) }
+
+-- ---- matches too large
+
+module _ (r : Bytes) (ms : List Pair) (M : Laws r ms) (pieces : List ℕ) where
+  -- both fragments are among the bonds of all pieces, and apart
+  pub too-large : (i : ℕ) → i < length ms → size (unions (λ p. p) pieces) < 2 * sizeOf ms i → goes ms pieces i ≡ false
+  unfolding sizeOf
+  too-large i h l = go (two (goes ms pieces i))
+    where
+      x : ℕ
+      x = pair ms i .h1
+
+      y : ℕ
+      y = pair ms i .h2
+
+      u : ℕ
+      u = unions (λ p. p) pieces
+
+      go : (goes ms pieces i ≡ true) ⊎ (goes ms pieces i ≡ false) → goes ms pieces i ≡ false
+      go (inr e) = e
+      go (inl e) =
+          let b = and-true (inside pieces x) (inside pieces y) e in
+          let s : Sub (bitOr x y) u = sets (sub (v 0) (v 2) ∷ sub (v 1) (v 2) ∷ []) (sub (or (v 0) (v 1)) (v 2)) (x ∷ y ∷ u ∷ []) tt (inside-whole pieces x (b .0)) (inside-whole pieces y (b .1)) in
+          absurd (omega (arith, size-mono (bitOr x y) u s, size-disjoint x y (M .twins i h .apart), M .twins i h .same-size))
+
+-- what is told from a match on is told from an earlier one, where none between is removable
+pub told-earlier : (ms : List Pair) (pieces : List ℕ) (from n start largest : ℕ) (masks : List ℕ) → Passes ms pieces from n → Told ms pieces n masks largest start → Told ms pieces from masks largest start
+told-earlier ms pieces from n start largest masks P T =
+    let e : n - (n - from) ≡ from = omega (arith, P .after) in
+    subst (λ (k : ℕ). Told ms pieces k masks largest start) e (back (n - from) (omega arith))
+  where
+    back : (d : ℕ) → d ≤ n - from → Told ms pieces (n - d) masks largest start
+    back zero h = rw sub-zero T
+    back (suc d) h =
+        let e : suc (n - suc d) ≡ n - d = omega (arith, h) in
+        told-out ms pieces (n - suc d) start largest masks (omega (arith, h, P .within)) (P .none (n - suc d) (omega (arith, h)) (omega (arith, h))) (rw e (back d (omega arith)))
 
 -- ---- what a scan is given
 

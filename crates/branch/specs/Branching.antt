@@ -23,6 +23,12 @@ use Rattle.branch.specs.Entered.{Entered}
 unfoldable pub leastTried : ℕ → (ℕ → ℕ) → List ℕ → ℕ → ℕ → ℕ → ℕ
 leastTried bounds mask pieces index best largest = elim (eqb bounds 2 || eqb bounds 3) [ true ↦ leastSize ceilLog2 mask pieces index best largest | false ↦ 2 ]
 
+-- no match from .. n is removable
+pub record Passes (ms : List Pair) (pieces : List ℕ) (from n : ℕ) : Type 0 where
+  pub after : from ≤ n
+  pub within : n ≤ length ms
+  pub none : (i : ℕ) → from ≤ i → i < n → goes ms pieces i ≡ false
+
 -- the removable matches from n on that have the least size or more
 abbrev pub triedFrom : Bytes → List Pair → List ℕ → ℕ → ℕ → List ℕ
 triedFrom r ms pieces least n = filter (λ m. leb least (sizeOf ms m)) (search.removable r ms pieces n)

@@ -9,11 +9,12 @@ ghost use Rattle.bitset.specs.Bits.{Sub};
 ghost use Rattle.molecule.specs.Lists.{Bytes};
 ghost use Rattle.matches.specs.Table.{Pair};
 ghost use Rattle.matches.specs.Laws.{Laws};
-ghost use Rattle.state.specs.Scan.{Scanning};
+ghost use Rattle.state.specs.Scan.{Scanning, Told};
 ghost use Rattle.branch.specs.Entered.{Searched, Entered};
-ghost use Rattle.branch.specs.Branching.{leastTried, Branched, Next, Chooses, Below};
+ghost use Rattle.branch.specs.Branching.{leastTried, Passes, Branched, Next, Chooses, Below};
 use state::State;
 use state::scan;
+use state::scan::Scanned;
 
 // What the removals of a state are tried from: for each bond the piece that has it, and all bonds in pieces; the pieces held, so many; the least size tried; the number of the first removable match.
 pub struct Branch {
@@ -53,6 +54,42 @@ fn least_tried(
     bounds::least_size(masks, pieces, index, best, largest) as u64
 }
 
+// The first match from a number on that is not too large for the pieces, whose union is all; the number of the matches where there is none. Along the table sizes never grow.
+fn first_fitting(pairs: &[u64], from: usize, matches: usize, all: u64) -> usize
+    requires { ⌜ (from ≤ matches) × ((ms : List Pair) × (pieces : List ℕ) × (own : List ℕ) × Scanning (now pairs) ms pieces own all × (matches ≡ length ms)) ⌝ }
+    ensures { λ r. ⌜ ((bytes : Bytes) (ms : List Pair) (pieces own : List ℕ) → Laws bytes ms → Scanning (now (pairs .entry)) ms pieces own all → matches ≡ length ms → Passes ms pieces from r) ⌝ }
+{
+    let bonds = bitset::size(all) as u64;
+    let mut low = from;
+    let mut high = matches;
+    while low < high {
+        let middle = low + (high - low) / 2;
+        if bonds < 2 * pairs[4 * middle + 3] {
+            low = middle + 1;
+            continue;
+        }
+        high = middle;
+    }
+    low
+}
+
+// The bonds in the removable matches from .. matches of each size go to masks; those too large are passed over at once.
+fn masks(
+    pairs: &[u64],
+    from: usize,
+    matches: usize,
+    own: &[u64; 64],
+    all: u64,
+    masks: &mut [u64],
+) -> Scanned
+    requires { ⌜ (length (now masks) ≡ 33) × (from ≤ matches) × ((bytes : Bytes) × (ms : List Pair) × (pieces : List ℕ) × Laws bytes ms × Scanning (now pairs) ms pieces (now own) all × (matches ≡ length ms)) ⌝ }
+    ensures long { λ r. ⌜ length (now (masks .exit)) ≡ 33 ⌝ }
+    ensures told { λ r. ⌜ ((bytes : Bytes) (ms : List Pair) (pieces : List ℕ) → Laws bytes ms → Scanning (now (pairs .entry)) ms pieces (now (own .entry)) all → matches ≡ length ms → Told ms pieces from (now (masks .exit)) (r .largest) (r .first)) ⌝ }
+{
+    let start = first_fitting(pairs, from, matches, all);
+    scan::masks(pairs, start, matches, own, all, masks)
+}
+
 // Lets go, and finds which sizes are tried and from where on.
 pub fn branch_of(
     touch: &[u64; 64],
@@ -70,7 +107,7 @@ pub fn branch_of(
     let own = scan::owners(&pieces[0..k]);
     let all = scan::whole(&pieces[0..k]);
     let mut masks = [0u64; 33];
-    let scanned = scan::masks(pairs, s.next, matches, &own, all, &mut masks);
+    let scanned = crate::masks(pairs, s.next, matches, &own, all, &mut masks);
     let mut held = [0u64; 32];
     let kept = masks[2];
     let count = state::keep(touch, &pieces[0..k], kept, &mut held);

@@ -128,7 +128,7 @@ owner-inside pieces own h b w l m = go (two (any (isSub h) pieces))
         ap (isSub h) (w .one b (s .0) l (s .1) (sub-in h (s .0) (is-sub h (s .0) (s .2)) b m)) ∙ s .2 ∙ sym e
     go (inr e) = ⊎-elim (λ f. absurd (never (any-none (isSub h) pieces e) f)) (λ f. f ∙ sym e) (two (isSub h (getD own b 0)))
 
-inside-whole : (pieces : List ℕ) (h : ℕ) → inside pieces h ≡ true → Sub h (unions (λ p. p) pieces)
+pub inside-whole : (pieces : List ℕ) (h : ℕ) → inside pieces h ≡ true → Sub h (unions (λ p. p) pieces)
 unfolding inside
 inside-whole pieces h e =
     let s = any-some (isSub h) pieces e in

@@ -7,6 +7,7 @@ use lib.ListN.{length, getD}
 use Rattle.molecule.specs.Lists.{Bytes}
 use Rattle.bitset.specs.Bits.{unions}
 use Rattle.matches.specs.Table.{pairs}
+use Rattle.matches.proofs.Laws.{table-laws}
 use Rattle.state.specs.Views.{stateOf}
 use Rattle.branch.specs.Entered.{Searched}
 use Rattle.branch.specs.Branching.{leastTried}
@@ -38,7 +39,7 @@ scanned c bytes at S =
 
 told : (c : tie.After-masks3) (bytes : Bytes) (at : List ℕ) → Searched bytes at (c .before .before .before .before .before .before .before .before .before .before .before .before .args .touch .now) (c .before .before .before .before .before .before .before .before .before .before .before .before .args .pairs .now) (c .before .before .before .before .before .before .before .before .before .before .before .before .args .matches)
     → Told (pairs bytes) (stateOf (c .before .before .before .before .before .before .before .before .before .before .before .before .args .s) .pieces) (c .before .before .before .before .before .before .before .before .before .before .before .before .args .s .next) (c .before .masks2 .last .1 .1 .1 .1 .1 .0) (c .before .masks2 .result .largest) (c .before .masks2 .result .first)
-told c bytes at S = c .before .masks2 .ensures .1 (pairs bytes) (stateOf (c .before .before .before .before .before .before .before .before .before .before .before .before .args .s) .pieces) (scanned (c .before .before) bytes at S) (S .count)
+told c bytes at S = c .before .masks2 .ensures .1 bytes (pairs bytes) (stateOf (c .before .before .before .before .before .before .before .before .before .before .before .before .args .s) .pieces) (table-laws bytes (S .ok)) (scanned (c .before .before) bytes at S) (S .count)
 
 -- src/visit.rt:171:28
 sub-owners : tie.Need-sub-owners
@@ -78,7 +79,7 @@ slice-aggregate-masks c = search needs
 
 -- src/visit.rt:174:9
 masks-requires : tie.Need-masks-requires
-masks-requires c κs = let p = c .before .before .before .before .before .before .before .before .before .before .pre .1 in (refl, omega (arith, p .3 .after, p .2 .count), (pairs (p .0), stateOf (c .before .before .before .before .before .before .before .before .before .before .args .s) .pieces, scanned c (p .0) (p .1) (p .2), p .2 .count))
+masks-requires c κs = let p = c .before .before .before .before .before .before .before .before .before .before .pre .1 in (refl, omega (arith, p .3 .after, p .2 .count), (p .0, pairs (p .0), stateOf (c .before .before .before .before .before .before .before .before .before .before .args .s) .pieces, table-laws (p .0) (p .2 .ok), scanned c (p .0) (p .1) (p .2), p .2 .count))
 
 -- src/visit.rt:176:16
 array-read-kept : tie.Need-array-read-kept
