@@ -8,7 +8,7 @@ use native.Mathlib.Omega.{arith}
 use lib.ListN.{length, getD, length-append}
 use Rattle.molecule.specs.Lists.{Bytes}
 use Rattle.molecule.specs.Record.{bonds}
-use Rattle.molecule.proofs.Lists.{length-list, sort-perm}
+use Rattle.molecule.proofs.Lists.{sort-perm}
 use Rattle.canonize.proofs.Lists.{Distinct, perm-length}
 use Rattle.canonize.proofs.Parts.{distinct-le}
 use Rattle.matches.specs.Table.{Table, Match, notBelow, sizes, singles, matchTable}
@@ -18,7 +18,7 @@ use Rattle.tabulate.specs.Sized.{tableAt, nodesAt, Held, Sizing, Sized}
 use Rattle.tabulate.specs.Built.{Whole, Over, Ended}
 use Rattle.matches.proofs.Pairing.{Grows, grows-refl}
 use Rattle.matches.proofs.Sizes.{Round, next, newest, round-next, sizes-grows, last-parents, sizes-enough, start, start-round, unsorted}
-use Rattle.tabulate.proofs.Stages.{parentsAt, table-zero, nodes-zero, nodes-suc, parents-count, table-done, table-round, table-round-next}
+use Rattle.tabulate.proofs.Stages.{singles-length, parentsAt, table-zero, nodes-zero, nodes-suc, parents-count, table-done, table-round, table-round-next}
 use Rattle.matches.proofs.Listed.{nodes-are, needs-are}
 use Rattle.matches.proofs.Descending.{countdown-has, descend-has}
 use Rattle.matches.proofs.RowLaws.{need-stays}
@@ -75,10 +75,6 @@ module _ (r : Bytes) where
   unfolding matchTable
   sorted-length = perm-length (sort-perm notBelow (unsorted r .matches))
 
-  singles-length : length (singles r) ≡ bonds r
-  unfolding singles
-  singles-length = length-list (λ (i : ℕ). 2 ^ i) 0 (bonds r)
-
   -- ---- the loop
 
   -- parts holds the table of all sizes below this one, with so many matches; the parents are the nodes from .. to
@@ -97,7 +93,7 @@ module _ (r : Bytes) where
     is = refl;
     held = h;
     older = sym (nodes-zero r);
-    all = e ∙ sym (nodes-suc r 0 ∙ ap (λ (t : Table). length (t .nodes)) (table-zero r) ∙ singles-length);
+    all = e ∙ sym (nodes-suc r 0 ∙ ap (λ (t : Table). length (t .nodes)) (table-zero r) ∙ singles-length r);
     few = f;
     count = sym (ap (λ (t : Table). length (t .matches)) (table-zero r));
   }

@@ -1,16 +1,21 @@
 -- The table size by size: after k sizes beyond the single bonds, its parents are the nodes from nodesAt k on. Assumes nothing.
 use mathlib.Core.Path.{_≡_, refl, sym, ap, _∙_, subst}
 use mathlib.Core.List.{List, [], _∷_}
-use Prim.Native.Nat.{ℕ, zero, suc, _-_, _≤_, _<_}
+use Prim.Native.Nat.{ℕ, zero, suc, _-_, _^_, _≤_, _<_}
 use native.Mathlib.Decide.{decLt, ℕ-discrete}
 use native.Mathlib.Omega.{arith}
 use lib.ListN.{length, drop, length-drop}
 use lib.Seq.{drop-length}
 use Rattle.molecule.specs.Lists.{Bytes}
 use Rattle.molecule.specs.Record.{bonds}
+use Rattle.molecule.proofs.Lists.{length-list}
 use Rattle.matches.specs.Table.{Table, sizes, singles}
 use Rattle.tabulate.specs.Sized.{tableAt, nodesAt}
 use Rattle.matches.proofs.Sizes.{Round, next, newest, round-next, start, start-round, unsorted}
+
+pub singles-length : (r : Bytes) → length (singles r) ≡ bonds r
+unfolding singles
+singles-length r = length-list (λ (i : ℕ). 2 ^ i) 0 (bonds r)
 
 module _ (r : Bytes) where
   -- the parents after so many rounds

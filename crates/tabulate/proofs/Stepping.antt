@@ -35,7 +35,7 @@ use Rattle.enumerate.proofs.Candidates.{grown-candidates}
 use Rattle.enumerate.proofs.Grouping.{found-around}
 use Rattle.tabulate.proofs.Noding.{pairUp-nodes, extend-nodes, extend-matches, after-length, cleared-found, noded-start, grouped-linked}
 use Rattle.tabulate.proofs.Fitting.{pairs-fit}
-use Rattle.tabulate.proofs.Stages.{parentsAt, nodes-suc, table-next, parents-kept, table-round, table-round-next}
+use Rattle.tabulate.proofs.Stages.{singles-length, parentsAt, nodes-suc, table-next, parents-kept, table-round, table-round-next}
 
 -- ---- the nodes that groups add
 
@@ -349,17 +349,13 @@ laid-next old now p i x wide h e w = record {
     starting j l (no n) = getD-set-other (set now i x) (8 * p + i) (8 * p + j) i 0 (λ q. n (omega arith)) ∙ getD-set-other now i (8 * p + j) x 0 (λ q. omega arith) ∙ w .starts j (omega arith)
 
 module _ (r : Bytes) (old now : List ℕ) (p : ℕ) (w : Laid old now p (bonds r)) (some : 0 < p) (clamped : p ≤ 4294967295) (wide : 12 * p ≤ length old) (fits : bonds r ≤ p) where
-  singles-long : length (singles r) ≡ bonds r
-  unfolding singles
-  singles-long = length-list (λ (i : ℕ). 2 ^ i) 0 (bonds r)
-
   single-at : (i : ℕ) → i < bonds r → getD (singles r) i 0 ≡ 2 ^ i
   unfolding singles
   single-at i h = list-at (λ (j : ℕ). 2 ^ j) 0 (bonds r) i 0 h ∙ ap (λ (n : ℕ). 2 ^ n) (zero-add i)
 
   alone : Starts r (singles r) (startIn now p)
   alone x h =
-      let l : x < bonds r = omega (arith, singles-long) in
+      let l : x < bonds r = omega (arith, singles-length r) in
       let e : startIn now p x ≡ x = w .starts x l in
       (omega arith, λ y b. (λ a. absurd (omega arith), λ a. absurd (omega (arith, a .big, single-node r (getD (singles r) x 0) (at-mem 0 (singles r) x h) .many))))
 
@@ -369,7 +365,7 @@ module _ (r : Bytes) (old now : List ℕ) (p : ℕ) (w : Laid old now p (bonds r
     wide = omega (arith, w .long);
     some = some;
     clamped = clamped;
-    nodes = λ i h. let l : i < bonds r = omega (arith, singles-long) in w .nodes i l ∙ sym (single-at i l);
+    nodes = λ i h. let l : i < bonds r = omega (arith, singles-length r) in w .nodes i l ∙ sym (single-at i l);
     starts = alone;
     fits = λ i h. need i h;
   }
