@@ -1,4 +1,4 @@
-// The table size by size: the single bonds, and one size more. Regions of p words of parts as in specs/Found.antt, specs/Grouped.antt and specs/Noded.antt.
+// The table size by size: the single bonds, and one size more. Regions of p words of parts as in specs/Found.antt and specs/Grouped.antt of `enumerate` and specs/Noded.antt.
 ghost use mathlib.Core.Path.{_≡_};
 ghost use Prim.Native.Nat.{ℕ, _*_, _≤_, _<_};
 ghost use lib.ListN.{length};

@@ -41,87 +41,66 @@ told : (c : tie.After-masks3) (bytes : Bytes) (at : List ℕ) → Searched bytes
     → Told (pairs bytes) (stateOf (c .before .before .before .before .before .before .before .before .before .before .before .before .args .s) .pieces) (c .before .before .before .before .before .before .before .before .before .before .before .before .args .s .next) (c .before .masks2 .last .1 .1 .1 .1 .1 .0) (c .before .masks2 .result .largest) (c .before .masks2 .result .first)
 told c bytes at S = c .before .masks2 .ensures .1 bytes (pairs bytes) (stateOf (c .before .before .before .before .before .before .before .before .before .before .before .before .args .s) .pieces) (table-laws bytes (S .ok)) (scanned (c .before .before) bytes at S) (S .count)
 
--- src/visit.rt:171:28
 sub-owners : tie.Need-sub-owners
 sub-owners c = search needs
 
--- src/visit.rt:171:28
 part-owners-start : tie.Need-part-owners-start
 part-owners-start c = search needs
 
--- src/visit.rt:171:28
 part-owners-end : tie.Need-part-owners-end
 part-owners-end c = let e : length (c .before .before .before .args .s .pieces) ≡ 32 = search needs in omega (arith, e, c .before .before .before .pre .1 .3 .pieces)
 
--- src/visit.rt:171:15
 owners-requires : tie.Need-owners-requires
 owners-requires c κs = rw part-zero (c .before .before .before .before .pre .1 .3 .fine .inv .apart)
 
--- src/visit.rt:172:27
 sub-whole : tie.Need-sub-whole
 sub-whole c = search needs
 
--- src/visit.rt:172:27
 part-whole-start : tie.Need-part-whole-start
 part-whole-start c = search needs
 
--- src/visit.rt:172:27
 part-whole-end : tie.Need-part-whole-end
 part-whole-end c = let e : length (c .before .before .before .before .before .before .args .s .pieces) ≡ 32 = search needs in omega (arith, e, c .before .before .before .before .before .before .pre .1 .3 .pieces)
 
--- src/visit.rt:172:9
 whole-requires : tie.Need-whole-requires
 whole-requires c κs = search needs
 
--- src/visit.rt:174:66
 slice-aggregate-masks : tie.Need-slice-aggregate-masks
 slice-aggregate-masks c = search needs
 
--- src/visit.rt:174:9
 masks-requires : tie.Need-masks-requires
 masks-requires c κs = let p = c .before .before .before .before .before .before .before .before .before .before .pre .1 in (refl, omega (arith, p .3 .after, p .2 .count), (p .0, pairs (p .0), stateOf (c .before .before .before .before .before .before .before .before .before .before .args .s) .pieces, table-laws (p .0) (p .2 .ok), scanned c (p .0) (p .1) (p .2), p .2 .count))
 
--- src/visit.rt:176:16
 array-read-kept : tie.Need-array-read-kept
 array-read-kept c = search needs
 
--- src/visit.rt:177:36
 sub-keep : tie.Need-sub-keep
 sub-keep c = search needs
 
--- src/visit.rt:177:36
 part-keep-start : tie.Need-part-keep-start
 part-keep-start c = search needs
 
--- src/visit.rt:177:36
 part-keep-end : tie.Need-part-keep-end
 part-keep-end c = let e : length (c .before .before .before .before .before .before .before .before .before .before .before .before .before .args .s .pieces) ≡ 32 = search needs in omega (arith, e, c .before .before .before .before .before .before .before .before .before .before .before .before .before .pre .1 .3 .pieces)
 
--- src/visit.rt:177:57
 slice-aggregate-keep : tie.Need-slice-aggregate-keep
 slice-aggregate-keep c = search needs
 
--- src/visit.rt:177:9
 keep-requires : tie.Need-keep-requires
 keep-requires c κs = let p = c .before .before .before .before .before .before .before .before .before .before .before .before .before .before .before .pre .1 in rw part-zero (pieces-sum (p .0) (p .2 .ok) (stateOf (c .before .before .before .before .before .before .before .before .before .before .before .before .before .before .before .args .s)) (p .3 .fine))
 
--- src/visit.rt:180:9
 slice-aggregate-least-tried : tie.Need-slice-aggregate-least-tried
 slice-aggregate-least-tried c = search needs
 
--- src/visit.rt:181:9
 sub-least-tried : tie.Need-sub-least-tried
 sub-least-tried c = search needs
 
--- src/visit.rt:181:9
 part-least-tried-start : tie.Need-part-least-tried-start
 part-least-tried-start c = search needs
 
--- src/visit.rt:181:9
 part-least-tried-end : tie.Need-part-least-tried-end
 part-least-tried-end c = omega (arith, long (c .before .before .before .before .before .before .before .before .before .before .before .before .before .before .before .before), c .before .before .before .before .before .before .before .before .before .before .before .before .before .before .before .before .before .before .before .pre .1 .3 .pieces)
 
--- src/visit.rt:178:9
 least-tried-requires : tie.Need-least-tried-requires
 least-tried-requires c κs =
     let a = c .before .before .before .before .before .before .before .before .before .before .before .before .before .before .before .before .before .before .before .before .args in
@@ -135,7 +114,6 @@ least-tried-requires c κs =
       told-within (p .0) (p .1) (a .touch .now) (a .pairs .now) (a .matches) (p .2) (a .s) (p .3) _ _ _ t,
     )
 
--- src/visit.rt:158:1
 returns : tie.Need-returns
 returns c =
     let a = c .before .before .before .before .before .before .before .before .before .before .before .before .before .before .before .before .before .before .before .before .before .args in

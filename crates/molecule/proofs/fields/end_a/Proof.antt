@@ -1,3 +1,4 @@
+-- `molecule::fields::end_a` meets its contract. Assumes nothing.
 use borrow.Author.Needs.{needs}
 use Rattle.molecule.proofs.fields.end_a.Statement.{statement}
 use Rattle.molecule.proofs.fields.end_a.Tie as tie
@@ -6,31 +7,24 @@ use Rattle.molecule.proofs.fields.end_a.Lts as lts
 use Rattle.molecule.proofs.fields.atoms.Reads as atoms-reads
 use Rattle.molecule.proofs.fields.wide.Reads as wide-reads
 
--- src/fields.rt:44:20
 atoms-requires : tie.Need-atoms-requires
 atoms-requires c κs = search needs
 
--- src/fields.rt:44:16
 add-wide : tie.Need-add-wide
 add-wide c = search needs
 
--- src/fields.rt:44:35
 mul-wide : tie.Need-mul-wide
 mul-wide c = search needs
 
--- src/fields.rt:44:16
 add-wide-2 : tie.Need-add-wide-2
 add-wide-2 c = search needs
 
--- src/fields.rt:44:10
 shared-slice-read-wide : tie.Need-shared-slice-read-wide
 shared-slice-read-wide c = search needs
 
--- src/fields.rt:44:5
 wide-requires : tie.Need-wide-requires
 wide-requires c κs = search needs
 
--- src/fields.rt:40:1
 returns : tie.Need-returns
 returns c = cc
 

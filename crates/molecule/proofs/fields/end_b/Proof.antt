@@ -1,3 +1,4 @@
+-- `molecule::fields::end_b` meets its contract. Assumes nothing.
 use borrow.Author.Needs.{needs}
 use Rattle.molecule.proofs.fields.end_b.Statement.{statement}
 use Rattle.molecule.proofs.fields.end_b.Tie as tie
@@ -6,31 +7,24 @@ use Rattle.molecule.proofs.fields.end_b.Lts as lts
 use Rattle.molecule.proofs.fields.atoms.Reads as atoms-reads
 use Rattle.molecule.proofs.fields.wide.Reads as wide-reads
 
--- src/fields.rt:52:20
 atoms-requires : tie.Need-atoms-requires
 atoms-requires c κs = search needs
 
--- src/fields.rt:52:16
 add-wide : tie.Need-add-wide
 add-wide c = search needs
 
--- src/fields.rt:52:35
 mul-wide : tie.Need-mul-wide
 mul-wide c = search needs
 
--- src/fields.rt:52:16
 add-wide-2 : tie.Need-add-wide-2
 add-wide-2 c = search needs
 
--- src/fields.rt:52:10
 shared-slice-read-wide : tie.Need-shared-slice-read-wide
 shared-slice-read-wide c = search needs
 
--- src/fields.rt:52:5
 wide-requires : tie.Need-wide-requires
 wide-requires c κs = search needs
 
--- src/fields.rt:48:1
 returns : tie.Need-returns
 returns c = cc
 

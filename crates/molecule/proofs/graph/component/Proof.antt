@@ -1,3 +1,4 @@
+-- `molecule::graph::component` meets its contract. Assumes nothing.
 use borrow.Author.Needs.{needs}
 use Rattle.molecule.proofs.graph.component.Statement.{statement}
 use Rattle.molecule.proofs.graph.component.Tie as tie
@@ -6,15 +7,12 @@ use Rattle.molecule.proofs.graph.component.Lts as lts
 use Rattle.bitset.proofs.single.Reads as single-reads
 use Rattle.molecule.proofs.graph.reach.Reads as reach-reads
 
--- src/graph.rt:85:21
 single-requires : tie.Need-single-requires
 single-requires c κs = search needs
 
--- src/graph.rt:85:5
 reach-requires : tie.Need-reach-requires
 reach-requires c κs = search needs
 
--- src/graph.rt:81:1
 returns : tie.Need-returns
 returns c = cc
 

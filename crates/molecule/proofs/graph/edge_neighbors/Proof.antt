@@ -22,47 +22,36 @@ few c =
     let w = end-few (start .args .bytes .now) (start .args .i) (start .pre .0) (start .pre .2) in
     (rw (c .before .end-a .ensures) (w .0), rw (c .end-b .ensures) (w .1))
 
--- src/graph.rt:36:9
 end-a-requires : tie.Need-end-a-requires
 end-a-requires c κs = search needs
 
--- src/graph.rt:37:9
 end-b-requires : tie.Need-end-b-requires
 end-b-requires c κs = search needs
 
--- src/graph.rt:38:38
 mul-union : tie.Need-mul-union
 mul-union c = omega (arith, few c .0)
 
--- src/graph.rt:38:38
 element-copy-out-union : tie.Need-element-copy-out-union
 element-copy-out-union c = few c .0
 
--- src/graph.rt:38:45
 mul-union-2 : tie.Need-mul-union-2
 mul-union-2 c = omega (arith, few (c .before) .1)
 
--- src/graph.rt:38:45
 element-copy-out-union-2 : tie.Need-element-copy-out-union-2
 element-copy-out-union-2 c = few (c .before) .1
 
--- src/graph.rt:38:24
 union-requires : tie.Need-union-requires
 union-requires c κs = search needs
 
--- src/graph.rt:38:68
 cast-single : tie.Need-cast-single
 cast-single c = search needs
 
--- src/graph.rt:38:53
 single-requires : tie.Need-single-requires
 single-requires c κs = search needs
 
--- src/graph.rt:38:5
 difference-requires : tie.Need-difference-requires
 difference-requires c κs = search needs
 
--- src/graph.rt:32:1
 returns : tie.Need-returns
 unfolding touching
 returns c =

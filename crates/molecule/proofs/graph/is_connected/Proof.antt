@@ -1,3 +1,4 @@
+-- `molecule::graph::is_connected` meets its contract. Assumes nothing.
 use borrow.Author.Needs.{needs}
 use borrow.Author.Tests.{eq-eqb, ne-eqb}
 use Rattle.molecule.specs.Touch.{isPart}
@@ -8,20 +9,16 @@ use Rattle.molecule.proofs.graph.is_connected.Lts as lts
 use Rattle.bitset.proofs.lowest.Reads as lowest-reads
 use Rattle.molecule.proofs.graph.component.Reads as component-reads
 
--- src/graph.rt:109:9
 returns : tie.Need-returns
 unfolding isPart
 returns c = rw (eq-eqb _ _ (c .if1 .taken))
 
--- src/graph.rt:111:25
 lowest-requires : tie.Need-lowest-requires
 lowest-requires c κs = search needs
 
--- src/graph.rt:111:5
 component-requires : tie.Need-component-requires
 component-requires c κs = search needs
 
--- src/graph.rt:105:1
 returns-2 : tie.Need-returns-2
 unfolding isPart
 returns-2 c = rw (ne-eqb _ _ (c .before .before .if1 .left), c .component .ensures, c .before .lowest .ensures .is)

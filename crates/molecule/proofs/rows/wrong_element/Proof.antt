@@ -1,14 +1,13 @@
+-- `molecule::rows::wrong_element` meets its contract. Assumes nothing.
 use borrow.Author.Tests.{eq-eqb, ne-eqb}
 use Rattle.molecule.proofs.rows.wrong_element.Statement.{statement}
 use Rattle.molecule.proofs.rows.wrong_element.Tie as tie
 use Rattle.molecule.proofs.rows.wrong_element.Reads as reads
 use Rattle.molecule.proofs.rows.wrong_element.Lts as lts
 
--- src/rows.rt:12:1
 returns : tie.Need-returns
 returns c = rw (eq-eqb _ _ (c .if1 .taken))
 
--- src/rows.rt:12:1
 returns-2 : tie.Need-returns-2
 returns-2 c = rw (ne-eqb _ _ (c .if1 .left))
 

@@ -1,18 +1,16 @@
+-- `molecule::rows::wrong_ends` meets its contract. Assumes nothing.
 use borrow.Author.Tests.{le-leb, lt-leb}
 use Rattle.molecule.proofs.rows.wrong_ends.Statement.{statement}
 use Rattle.molecule.proofs.rows.wrong_ends.Tie as tie
 use Rattle.molecule.proofs.rows.wrong_ends.Reads as reads
 use Rattle.molecule.proofs.rows.wrong_ends.Lts as lts
 
--- src/rows.rt:30:9
 returns : tie.Need-returns
 returns c = rw (le-leb _ _ (c .if1 .taken))
 
--- src/rows.rt:33:9
 returns-2 : tie.Need-returns-2
 returns-2 c = rw (lt-leb _ _ (c .before .if1 .left), le-leb _ _ (c .if2 .taken))
 
--- src/rows.rt:26:1
 returns-3 : tie.Need-returns-3
 returns-3 c = rw (lt-leb _ _ (c .before .if1 .left), lt-leb _ _ (c .if2 .left))
 

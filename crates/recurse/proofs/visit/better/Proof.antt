@@ -5,11 +5,9 @@ use Rattle.recurse.proofs.visit.better.Tie as tie
 use Rattle.recurse.proofs.visit.better.Reads as reads
 use Rattle.recurse.proofs.visit.better.Lts as lts
 
--- src/visit.rt:268:9
 returns : tie.Need-returns
 returns c = rw (lt-ltb _ _ (c .if1 .taken))
 
--- src/visit.rt:264:1
 returns-2 : tie.Need-returns-2
 returns-2 c = rw (le-ltb _ _ (c .if1 .left))
 

@@ -19,178 +19,138 @@ use Rattle.recurse.proofs.visit.int_stops.Reads as int-stops-reads
 long : (c : tie.Else1) → (length (c .before .before .before .before .before .before .before .before .before .before .args .s .pieces) ≡ 32) × (length (c .before .before .before .before .before .before .before .before .before .before .args .s .removals) ≡ 32)
 long c = let g = c .before .before .before .before .before .before .before .before .before .before .good .1 .1 .1 .1 .1 .1 .1 .1 .1 .1 .0 in search needs
 
--- src/visit.rt:98:31
 cast-t21 : tie.Need-cast-t21
 cast-t21 c = search needs
 
--- src/visit.rt:98:9
 returns : tie.Need-returns
 returns c = let p = c .before .before .before .before .before .before .before .before .before .before .before .pre in (λ m w. ends-spent _ _ _ _ _ _ m (c .before .if1 .taken), (p .1 .cached, p .1 .slots))
 
--- src/visit.rt:100:8
 int-stops-requires : tie.Need-int-stops-requires
 int-stops-requires c κs = let p = c .before .before .before .before .before .before .before .before .before .before .pre in (p .0 .pieces, largest-few (c .before .before .before .before .before .before .before .before .before .before .args .bytes .now) (p .1 .formed) (stateOf (c .before .before .before .before .before .before .before .before .before .before .args .s)) (p .0 .fine))
 
--- src/visit.rt:101:9
 returns-2 : tie.Need-returns-2
 returns-2 c =
     let a = c .before .before .before .before .before .before .before .before .before .before .before .before .args in
     let p = c .before .before .before .before .before .before .before .before .before .before .before .before .pre in
     (λ m w. stops-int (a .bytes .now) (a .setting) _ (a .s) (a .best) (a .states) m (c .before .before .if1 .left) (sym (c .before .int-stops .ensures (a .bytes .now) (pairs (a .bytes .now)) (settingOf (a .setting)) _ refl) ∙ c .if2 .taken) _ _ w, (p .1 .cached, p .1 .slots))
 
--- src/visit.rt:104:9
 returns-3 : tie.Need-returns-3
 returns-3 c =
     let a = c .before .before .before .before .before .before .before .before .before .before .before .before .before .before .args in
     let p = c .before .before .before .before .before .before .before .before .before .before .before .before .before .before .pre in
     (λ m w. goes-plain (a .bytes .now) (a .setting) _ (a .s) (a .best) (a .states) m (c .before .before .before .before .if1 .left) (sym (c .before .before .before .int-stops .ensures (a .bytes .now) (pairs (a .bytes .now)) (settingOf (a .setting)) _ refl) ∙ c .before .before .if2 .left) (c .if3 .taken) _ _ w, (p .1 .cached, p .1 .slots))
 
--- src/visit.rt:115:9
 sub-ask : tie.Need-sub-ask
 sub-ask c = search needs
 
--- src/visit.rt:115:9
 part-ask-start : tie.Need-part-ask-start
 part-ask-start c = search needs
 
--- src/visit.rt:115:9
 part-ask-end : tie.Need-part-ask-end
 part-ask-end c = omega (arith, long (c .before .before .before .before .before .before .before .before) .0, c .before .before .before .before .before .before .before .before .before .before .before .before .before .before .before .before .before .before .pre .0 .pieces)
 
--- src/visit.rt:117:9
 sub-ask-2 : tie.Need-sub-ask-2
 sub-ask-2 c = search needs
 
--- src/visit.rt:117:9
 part-ask-start-2 : tie.Need-part-ask-start-2
 part-ask-start-2 c = search needs
 
--- src/visit.rt:117:9
 part-ask-end-2 : tie.Need-part-ask-end-2
 part-ask-end-2 c = omega (arith, long (c .before .before .before .before .before .before .before .before .before .before) .1, c .before .before .before .before .before .before .before .before .before .before .before .before .before .before .before .before .before .before .before .before .pre .0 .removals)
 
--- src/visit.rt:110:11
 ask-requires : tie.Need-ask-requires
 ask-requires c κs =
     let a = c .before .before .before .before .before .before .before .before .before .before .before .before .before .before .before .before .before .before .before .before .before .before .before .before .before .before .before .args in
     let p = c .before .before .before .before .before .before .before .before .before .before .before .before .before .before .before .before .before .before .before .before .before .before .before .before .before .before .before .pre in
     (p .1, p .2, p .3, rw part-zero (fragments-of (a .bytes .now) (a .s) (p .1 .formed) (p .0)), rw (part-zero, part-zero) (p .0 .both))
 
--- src/visit.rt:126:13
 enum-told : tie.Need-enum-told
 enum-told c = search needs
 
--- src/visit.rt:126:13
 same-length : tie.Need-same-length
 same-length c = search needs
 
--- src/visit.rt:126:13
 same-length-2 : tie.Need-same-length-2
 same-length-2 c = search needs
 
--- src/visit.rt:126:13
 same-length-3 : tie.Need-same-length-3
 same-length-3 c = search needs
 
--- src/visit.rt:126:13
 same-length-4 : tie.Need-same-length-4
 same-length-4 c = search needs
 
--- src/visit.rt:126:13
 same-length-5 : tie.Need-same-length-5
 same-length-5 c = search needs
 
--- src/visit.rt:126:13
 same-length-6 : tie.Need-same-length-6
 same-length-6 c = search needs
 
--- src/visit.rt:126:13
 same-length-7 : tie.Need-same-length-7
 same-length-7 c = search needs
 
--- src/visit.rt:126:13
 returns-4 : tie.Need-returns-4
 returns-4 c =
     let a = c .before .before .before .before .before .before .before .before .before .before .before .before .before .before .before .before .before .before .before .before .before .before .before .before .before .before .before .before .before .before .before .before .before .before .before .before .before .before .before .before .before .before .before .before .args in
     let q = c .before .before .before .before .before .before .before .before .before .before .before .before .before .before .before .before .ask in
     (λ m w. stops-memo (a .bytes .now) (a .setting) _ (a .s) (a .best) (a .states) m (c .before .before .before .before .before .before .before .before .before .before .before .before .before .before .before .before .before .before .before .before .before .before .before .before .before .before .before .before .before .before .before .before .before .before .if1 .left) (sym (c .before .before .before .before .before .before .before .before .before .before .before .before .before .before .before .before .before .before .before .before .before .before .before .before .before .before .before .before .before .before .before .before .before .int-stops .ensures (a .bytes .now) (pairs (a .bytes .now)) (settingOf (a .setting)) _ refl) ∙ c .before .before .before .before .before .before .before .before .before .before .before .before .before .before .before .before .before .before .before .before .before .before .before .before .before .before .before .before .before .before .before .before .if2 .left) (c .before .before .before .before .before .before .before .before .before .before .before .before .before .before .before .before .before .before .before .before .before .before .before .before .before .before .before .before .before .before .if3 .left) _ _ _ _ _ (part-zero (a .s .count) (a .s .pieces)) (part-zero (a .s .removed) (a .s .removals)) (q .ensures .0 m w) _ w (c .enum-told .given .1), q .ensures .1)
 
--- src/visit.rt:129:35
 enum-told-2 : tie.Need-enum-told-2
 enum-told-2 c = search needs
 
--- src/visit.rt:129:35
 add-t49 : tie.Need-add-t49
 add-t49 c = let f = c .before .before .before .before .before .before .before .before .before .before .before .before .before .before .before .before .before .before .before .before .before .before .before .before .before .before .before .before .before .before .before .before .before .before .before .before .before .before .before .before .before .before .before .before .fits in omega (arith, f)
 
--- src/visit.rt:129:13
 same-length-8 : tie.Need-same-length-8
 same-length-8 c = search needs
 
--- src/visit.rt:129:13
 same-length-9 : tie.Need-same-length-9
 same-length-9 c = search needs
 
--- src/visit.rt:129:13
 same-length-10 : tie.Need-same-length-10
 same-length-10 c = search needs
 
--- src/visit.rt:129:13
 same-length-11 : tie.Need-same-length-11
 same-length-11 c = search needs
 
--- src/visit.rt:129:13
 same-length-12 : tie.Need-same-length-12
 same-length-12 c = search needs
 
--- src/visit.rt:129:13
 same-length-13 : tie.Need-same-length-13
 same-length-13 c = search needs
 
--- src/visit.rt:129:13
 same-length-14 : tie.Need-same-length-14
 same-length-14 c = search needs
 
--- src/visit.rt:129:13
 returns-5 : tie.Need-returns-5
 returns-5 c =
     let a = c .before .before .before .before .before .before .before .before .before .before .before .before .before .before .before .before .before .before .before .before .before .before .before .before .before .before .before .before .before .before .before .before .before .before .before .before .before .before .before .before .before .before .before .before .args in
     let q = c .before .before .before .before .before .before .before .before .before .before .before .before .before .before .before .before .ask in
     (λ m w. ends-full (a .bytes .now) (a .setting) _ (a .s) (a .best) (a .states) m (c .before .before .before .before .before .before .before .before .before .before .before .before .before .before .before .before .before .before .before .before .before .before .before .before .before .before .before .before .before .before .before .before .before .before .if1 .left) (sym (c .before .before .before .before .before .before .before .before .before .before .before .before .before .before .before .before .before .before .before .before .before .before .before .before .before .before .before .before .before .before .before .before .before .int-stops .ensures (a .bytes .now) (pairs (a .bytes .now)) (settingOf (a .setting)) _ refl) ∙ c .before .before .before .before .before .before .before .before .before .before .before .before .before .before .before .before .before .before .before .before .before .before .before .before .before .before .before .before .before .before .before .before .if2 .left) (c .before .before .before .before .before .before .before .before .before .before .before .before .before .before .before .before .before .before .before .before .before .before .before .before .before .before .before .before .before .before .if3 .left) _ _ _ _ _ (part-zero (a .s .count) (a .s .pieces)) (part-zero (a .s .removed) (a .s .removals)) (q .ensures .0 m w) (c .enum-told2 .given .1), q .ensures .1)
 
--- src/visit.rt:131:21
 enum-known-e : tie.Need-enum-known-e
 enum-known-e c = search needs
 
--- src/visit.rt:132:13
 same-length-15 : tie.Need-same-length-15
 same-length-15 c = search needs
 
--- src/visit.rt:132:13
 same-length-16 : tie.Need-same-length-16
 same-length-16 c = search needs
 
--- src/visit.rt:132:13
 same-length-17 : tie.Need-same-length-17
 same-length-17 c = search needs
 
--- src/visit.rt:132:13
 same-length-18 : tie.Need-same-length-18
 same-length-18 c = search needs
 
--- src/visit.rt:132:13
 same-length-19 : tie.Need-same-length-19
 same-length-19 c = search needs
 
--- src/visit.rt:132:13
 same-length-20 : tie.Need-same-length-20
 same-length-20 c = search needs
 
--- src/visit.rt:132:13
 same-length-21 : tie.Need-same-length-21
 same-length-21 c = search needs
 
--- src/visit.rt:132:13
 returns-6 : tie.Need-returns-6
 returns-6 c =
     let a = c .before .before .before .before .before .before .before .before .before .before .before .before .before .before .before .before .before .before .before .before .before .before .before .before .before .before .before .before .before .before .before .before .before .before .before .before .before .before .before .before .before .before .before .before .before .args in

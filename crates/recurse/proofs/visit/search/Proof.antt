@@ -17,19 +17,15 @@ use Rattle.recurse.proofs.visit.visit.Reads as visit-reads
 many : (c : tie.Start) → (1 ≤ c .args .n) × (c .args .n ≤ 64)
 many c = let p = c .pre in (omega (arith, p .many, some (c .args .bytes .now) (p .searched .ok)), omega (arith, p .many, few (c .args .bytes .now) (p .searched .ok)))
 
--- src/visit.rt:405:9
 root-requires : tie.Need-root-requires
 root-requires c κs = many (c .before .before .before .before .before .before .before .before .before)
 
--- src/visit.rt:421:9
 cast-visit : tie.Need-cast-visit
 cast-visit c = omega (arith, many (c .before .before .before .before .before .before .before .before .before .before .before .before .before .before .before .before .before) .1)
 
--- src/visit.rt:421:9
 sub-visit : tie.Need-sub-visit
 sub-visit c = omega (arith, many (c .before .before .before .before .before .before .before .before .before .before .before .before .before .before .before .before .before) .0)
 
--- src/visit.rt:406:5
 visit-requires : tie.Need-visit-requires
 visit-requires c κs =
     let a = c .before .before .before .before .before .before .before .before .before .before .before .before .before .before .before .before .before .args in
@@ -43,35 +39,27 @@ visit-requires c κs =
       stored = ([], p .stored);
     }
 
--- src/visit.rt:384:1
 same-length : tie.Need-same-length
 same-length c = search needs
 
--- src/visit.rt:384:1
 same-length-2 : tie.Need-same-length-2
 same-length-2 c = search needs
 
--- src/visit.rt:384:1
 same-length-3 : tie.Need-same-length-3
 same-length-3 c = search needs
 
--- src/visit.rt:384:1
 same-length-4 : tie.Need-same-length-4
 same-length-4 c = search needs
 
--- src/visit.rt:384:1
 same-length-5 : tie.Need-same-length-5
 same-length-5 c = search needs
 
--- src/visit.rt:384:1
 same-length-6 : tie.Need-same-length-6
 same-length-6 c = search needs
 
--- src/visit.rt:384:1
 same-length-7 : tie.Need-same-length-7
 same-length-7 c = search needs
 
--- src/visit.rt:384:1
 returns : tie.Need-returns
 returns c =
     let a = c .before .before .before .before .before .before .before .before .before .before .before .before .before .before .before .before .before .before .before .before .before .before .before .before .before .before .before .before .before .before .before .before .args in
