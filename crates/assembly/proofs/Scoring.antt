@@ -7,34 +7,38 @@ use Prim.Native.Nat.{ℕ, _+_, _-_, _*_, _≤_, _<_}
 use native.Mathlib.Omega.{arith}
 use lib.ListN.{length, take, drop, replicate, length-take, length-replicate}
 use lib.Seq.{take-at}
-use lib.Dec.{ltb, leb}
-use borrow.Author.Tests.{ltb-false, lt-ltb, le-ltb, le-leb, lt-leb}
+use lib.Dec.{ltb}
+use borrow.Author.Tests.{lt-ltb, le-ltb, le-leb, lt-leb}
 use Rattle.molecule.specs.Lists.{Bytes}
-use Rattle.molecule.specs.Check.{Answer, accepted, refused, row, rowAt, check}
+use Rattle.molecule.specs.Check.{Answer, accepted, refused, row, check}
 use Rattle.molecule.specs.Verdict.{numberOf, placeOf}
 use Rattle.molecule.specs.declared.Fault.{Fault}
 use Rattle.molecule.specs.declared.Fault.the-variants as fault
-use Rattle.molecule.proofs.Accepted.{row-next, rowAt-next}
+use Rattle.molecule.proofs.RowLaws.{row-hit, row-pass}
 use Rattle.molecule.proofs.Lists.{zeros-at}
 use Rattle.matches.specs.Table.{Table, matchTable, pairs}
-use Rattle.matches.specs.Rows.{partsRoom, pairsRoom, overflows, tooMany, tableAnswer}
-use Rattle.matches.specs.Written.{Recorded}
+use Rattle.matches.specs.Rows.{tableAnswer}
+use Rattle.matches.specs.Inner.Written.{Recorded}
 use Rattle.tabulate.specs.Built as built
-use Rattle.matches.proofs.Recorded.{pairs-length}
+use Rattle.tabulate.specs.Inner.PairsLeft.{pairsAfter}
+use Rattle.matches.proofs.Laws.{pairs-length, table-refused, table-fits}
 use Rattle.tabulate.proofs.Answering.{counted-is, refused-is, after-room, after-recorded, after-length}
 use Rattle.search.specs.Setting.{Setting, Room, memoRoom}
 use Rattle.search.specs.Search as definition
 use Rattle.search.specs.Answer.{ScoreAnswer, scored, turnedBack, entryAnswer, searched, scoreAnswer, trailAfter, tableAfter}
-use Rattle.search.specs.Claims.{Ends, Finished}
+use Rattle.search.specs.Answer.{Finished}
+use Rattle.search.specs.Inner.Claims.{Ends}
 use Rattle.search.proofs.Score as score
 use Rattle.assembly.specs.declared.answer.Score.{Score}
 use Rattle.assembly.specs.declared.answer.Scored.{Scored}
 use Rattle.assembly.specs.declared.answer.Scored.the-variants as says
 use Rattle.recurse.specs.declared.visit.Outcome.{Outcome}
-use Rattle.desk.specs.Cached.{Cached}
-use Rattle.memoize.specs.Stored.{Stored}
-use Rattle.recurse.specs.Follows.{Follows}
-use Rattle.assembly.specs.Answer.{answerOf}
+use Rattle.desk.specs.Inner.Cached.{Cached}
+use Rattle.memoize.specs.Inner.Stored.{Stored}
+use Rattle.recurse.specs.Inner.Follows.{Follows}
+use Rattle.assembly.specs.Answer.{Loan, roomOf, answerOf, answerTo, Leaves}
+use Rattle.assembly.specs.Contract.{Answers}
+use Rattle.assembly.specs.Inner.Parts.{searchAnswer, AnswerTold, Admitted, TablesZero}
 use Rattle.assembly.specs.Demand.{Demand3}
 use Rattle.desk.proofs.Caching.{cached-none}
 use Rattle.memoize.proofs.Entries.{stored-none}
@@ -60,12 +64,14 @@ either-right false b e = e
 -- what is turned back on rows 1 to 8: the answer, and what is lent as it was
 pub record Early (a : ScoreAnswer) (k p : ℕ) : Type 0 where
   pub answer : turnedBack k p ≡ a
-  pub trail : (numbers : List ℕ) → numbers ≡ trailAfter a numbers
-  pub table : (words : List ℕ) → words ≡ tableAfter a words
+  pub leaves : (lent : Loan) → Leaves a lent lent
 
 early-back : (k p : ℕ) → k < 9 → Early (turnedBack k p) k p
 unfolding trailAfter tableAfter
-early-back k p h = record { answer = refl; trail = λ numbers. refl; table = λ words. rw (lt-leb 9 k h, tableAfter) }
+early-back k p h = record { answer = refl; leaves = λ lent. record { trail = refl; parts = same (lent .parts); pairs = same (lent .pairs); memo = same (lent .memo); desk = same (lent .desk) } }
+  where
+    same : (words : List ℕ) → words ≡ tableAfter (turnedBack k p) words
+    same words = rw (lt-leb 9 k h, tableAfter)
 
 module _ (r : Bytes) (setting : Setting) (room : Room) where
   refused-back : (k p : ℕ) → entryAnswer r setting room ≡ refused k p → turnedBack k p ≡ scoreAnswer r setting room
@@ -87,8 +93,7 @@ module _ (r : Bytes) (setting : Setting) (room : Room) where
     seven b e = rw (ok, e, entryAnswer)
 
     row-seven : (ltb 3 (setting .bounds) || ltb 1 (setting .memo)) ≡ true → Early (scoreAnswer r setting room) 7 0
-    unfolding row
-    row-seven e = early 7 0 (omega arith) (seven true e)
+    row-seven e = early 7 0 (omega arith) (seven true e ∙ row-hit 7 0 true (row 8 0 (ltb (room .trail) 32 || ltb (room .desk) 4096) accepted) refl)
 
     -- row 7
     pub bounds-back : 3 < setting .bounds → Early (scoreAnswer r setting room) 7 0
@@ -102,12 +107,10 @@ module _ (r : Bytes) (setting : Setting) (room : Room) where
       not-seven = rw (le-ltb 3 (setting .bounds) few, le-ltb 1 (setting .memo) one)
 
       eight : (b : Bool) → (ltb (room .trail) 32 || ltb (room .desk) 4096) ≡ b → entryAnswer r setting room ≡ row 8 0 b accepted
-      unfolding row
-      eight b e = rw (← e) (seven false not-seven)
+      eight b e = rw (← e) (seven false not-seven ∙ row-pass 7 0 false (row 8 0 (ltb (room .trail) 32 || ltb (room .desk) 4096) accepted) refl)
 
       row-eight : (ltb (room .trail) 32 || ltb (room .desk) 4096) ≡ true → Early (scoreAnswer r setting room) 8 0
-      unfolding row
-      row-eight e = early 8 0 (omega arith) (eight true e)
+      row-eight e = early 8 0 (omega arith) (eight true e ∙ row-hit 8 0 true accepted refl)
 
       -- row 8
       pub trail-back : room .trail < 32 → Early (scoreAnswer r setting room) 8 0
@@ -118,27 +121,9 @@ module _ (r : Bytes) (setting : Setting) (room : Room) where
 
       -- none of rows 1 to 8
       pub entry-accepts : 32 ≤ room .trail → 4096 ≤ room .desk → entryAnswer r setting room ≡ accepted
-      unfolding row
-      entry-accepts h g = eight false (rw (le-ltb (room .trail) 32 h, le-ltb (room .desk) 4096 g))
+      entry-accepts h g = eight false (rw (le-ltb (room .trail) 32 h, le-ltb (room .desk) 4096 g)) ∙ row-pass 8 0 false accepted refl
 
 -- ---- rows 9 to 12
-
--- a row turns back with its own number, or leaves it to what comes after it
-row-back : (k p : ℕ) (b : Bool) (next : Answer) (j q : ℕ) → row k p b next ≡ refused j q → (k ≡ j) ⊎ (next ≡ refused j q)
-unfolding row
-row-back k p true next j q e = inl (cc)
-row-back k p false next j q e = inr e
-
--- rows 9 and 10 are the only ones of the table
-table-row : (t : Table) (parts words k p : ℕ) → tableAnswer t parts words ≡ refused k p → 9 ≤ k
-unfolding tableAnswer rowAt
-table-row t parts words k p e = ⊎-elim (λ (w : 9 ≡ k). omega arith) next (row-back 9 _ _ _ k p e)
-  where
-    never : accepted ≡ refused k p → 9 ≤ k
-    never w = let z : _≡_ {A = ℕ} 0 1 = cc in absurd (omega arith)
-
-    next : row 10 (length (t .matches)) (tooMany t (pairsRoom words)) accepted ≡ refused k p → 9 ≤ k
-    next w = ⊎-elim (λ (v : 10 ≡ k). omega arith) never (row-back 10 _ _ _ k p w)
 
 module _ (r : Bytes) (setting : Setting) (room : Room) (entry : entryAnswer r setting room ≡ accepted) where
   -- the table's rows
@@ -170,32 +155,48 @@ module _ (r : Bytes) (setting : Setting) (room : Room) (entry : entryAnswer r se
       go (refused j i) q =
           let f : turnedBack j i ≡ turnedBack k p = sym (table-back j i q) ∙ e in
           let g : j ≡ k = cc in
-          omega (arith, table-row (matchTable r) (room .parts) (room .pairs) j i q)
+          ⊎-elim (λ (w : j ≡ 9). omega arith) (λ (w : j ≡ 10). omega arith) (table-refused (matchTable r) (room .parts) (room .pairs) j i q)
 
-  -- every word of the four tables is zero
-  pub zeros-after : (words now : List ℕ) → now ≡ replicate (length words) 0 → now ≡ tableAfter (scoreAnswer r setting room) words
+  zeros-after : (words now : List ℕ) → now ≡ replicate (length words) 0 → now ≡ tableAfter (scoreAnswer r setting room) words
   zeros-after words now e = e ∙ sym (late (scoreAnswer r setting room) back-late words)
 
-  -- turned back by the table: the row, and the trail as it was
-  pub score-table : (k p : ℕ) → built.turnedBack k p ≡ built.buildAnswer r (room .parts) (room .pairs) → (old : List ℕ) → (turnedBack k p ≡ scoreAnswer r setting room) × (old ≡ trailAfter (scoreAnswer r setting room) old)
-  unfolding trailAfter
-  score-table k p e old = let w = table-back k p (refused-is r (room .parts) (room .pairs) k p e) in (sym w, rw (w, trailAfter))
+-- none of rows 1 to 8 applies
+module _ (r : Bytes) (setting : Setting) (lent : Loan) (w : Admitted r setting lent) where
+  entry : entryAnswer r setting (roomOf lent) ≡ accepted
+  entry = entry-accepts r setting (roomOf lent) (w .ok) (w .bounds) (w .memo) (w .trail) (w .desk)
 
-  -- a table that is built: as the search ends
-  pub score-built : (n : ℕ) → built.counted n ≡ built.buildAnswer r (room .parts) (room .pairs) → (x : ScoreAnswer) (old end : List ℕ) → x ≡ searched (matchTable r) (definition.search r (pairs r) setting (memoRoom (room .memo)))
-      → end ≡ trailAfter (searched (matchTable r) (definition.search r (pairs r) setting (memoRoom (room .memo)))) old → (x ≡ scoreAnswer r setting room) × (end ≡ trailAfter (scoreAnswer r setting room) old)
-  score-built n e x old end f g = rw (table-built (counted-is r (room .parts) (room .pairs) n e .0)) (f, g)
+  -- every word of the four tables is zero
+  pub leaves-cleared : (now : Loan) → now .trail ≡ trailAfter (answerTo r setting lent) (lent .trail) → TablesZero lent now → Leaves (answerTo r setting lent) lent now
+  leaves-cleared now e c = record {
+    trail = e;
+    parts = zeros (lent .parts) (now .parts) (c .parts);
+    pairs = zeros (lent .pairs) (now .pairs) (c .pairs);
+    memo = zeros (lent .memo) (now .memo) (c .memo);
+    desk = zeros (lent .desk) (now .desk) (c .desk);
+  }
+    where
+      zeros : (words now : List ℕ) → now ≡ replicate (length words) 0 → now ≡ tableAfter (answerTo r setting lent) words
+      zeros = zeros-after r setting (roomOf lent) entry
+
+  module _ (x : Scored) where
+    -- turned back by the table: the row, and the trail as it was
+    pub told-table : (k p : ℕ) → answerOf x (lent .trail) ≡ turnedBack k p → built.turnedBack k p ≡ built.buildAnswer r (length (lent .parts)) (length (lent .pairs)) → AnswerTold (answerTo r setting lent) x (lent .trail) (lent .trail)
+    unfolding trailAfter
+    told-table k p f e =
+        let q = table-back r setting (roomOf lent) entry k p (refused-is r (length (lent .parts)) (length (lent .pairs)) k p e) in
+        record { answer = f ∙ sym q; ends = rw (q, trailAfter) }
+
+    -- a table that is built: as the search ends
+    pub told-built : (n : ℕ) → built.counted n ≡ built.buildAnswer r (length (lent .parts)) (length (lent .pairs)) → (now : List ℕ) → AnswerTold (searchAnswer r setting (lent .memo)) x (lent .trail) now
+        → AnswerTold (answerTo r setting lent) x (lent .trail) now
+    told-built n e now q = rw (table-built r setting (roomOf lent) entry (counted-is r (length (lent .parts)) (length (lent .pairs)) n e .0)) q
 
 -- a table that is accepted has few matches
 built-few : (r : Bytes) (parts words : ℕ) → tableAnswer (matchTable r) parts words ≡ accepted → length (pairs r) ≤ 4294967295
-unfolding tableAnswer tooMany
-built-few r parts words ok =
-    let a = rowAt-next 9 (overflows (matchTable r) (partsRoom parts)) (length (matchTable r .needs)) (row 10 (length (matchTable r .matches)) (tooMany (matchTable r) (pairsRoom words)) accepted) ok .1 in
-    let b = row-next 10 (length (matchTable r .matches)) (tooMany (matchTable r) (pairsRoom words)) accepted a .0 in
-    omega (arith, ltb-false (pairsRoom words) (length (matchTable r .matches)) b, pairs-length (matchTable r))
+built-few r parts words ok = omega (arith, table-fits (matchTable r) parts words ok, pairs-length (matchTable r))
 
 -- what the search is given of a table that is built
-pub built-ready : (r : Bytes) (parts : ℕ) (old now : List ℕ) (n : ℕ) → built.counted n ≡ built.buildAnswer r parts (length old) → now ≡ built.pairsAfter r parts old
+pub built-ready : (r : Bytes) (parts : ℕ) (old now : List ℕ) (n : ℕ) → built.counted n ≡ built.buildAnswer r parts (length old) → now ≡ pairsAfter r parts old
     → Recorded now (pairs r) × (n ≡ length (pairs r)) × (4 * n ≤ length now) × (n ≤ 4294967295)
 built-ready r parts old now n e f =
     let w = counted-is r parts (length old) n e in
@@ -220,7 +221,7 @@ module _ (r : Bytes) (best : ℕ) (o : Outcome) (words : List ℕ) where
   answer-short (definition.halts k p) w z = absurd (w .0 z)
 
   answer-scored : (x : definition.Outcome) → Follows r best o words x → o .row ≡ 0 → length (o .trail) ≡ 32 → (t : Table) (n : ℕ) → n ≡ length (t .matches) → (old end : List ℕ)
-      → end ≡ take (o .length) (o .trail) ++ (replicate (32 - o .length) 0 ++ drop 32 old) → (scored (o .answer) n (o .states) (take (o .length) end) ≡ searched t x) × (end ≡ trailAfter (searched t x) old)
+      → end ≡ take (o .length) (o .trail) ++ (replicate (32 - o .length) 0 ++ drop 32 old) → (scored (o .answer) n (o .run .states) (take (o .length) end) ≡ searched t x) × (end ≡ trailAfter (searched t x) old)
   unfolding searched trailAfter
   answer-scored (definition.answers a τ run) w z l t n c old end e =
       let k : length (take (o .length) (o .trail)) ≡ o .length = simp length-take (omega (arith, w .2)) in
@@ -240,30 +241,33 @@ module _ (r : Bytes) (best : ℕ) (o : Outcome) (words : List ℕ) where
   answer-row setting (definition.halts k p) w (inr h) z = inr (w .1 ∙ h .0)
 
 -- a search with a memo table of m words, which is as long as it was
-module _ (r : Bytes) (ok : check r ≡ accepted) (setting : Setting) (best : ℕ) (o : Outcome) (words : List ℕ) (m n : ℕ) (same : m ≡ n) (found : Follows r best o words (definition.search r (pairs r) setting (memoRoom m))) where
-  follows : Follows r best o words (definition.search r (pairs r) setting (memoRoom n))
+module _ (r : Bytes) (ok : check r ≡ accepted) (setting : Setting) (best : ℕ) (o : Outcome) (words memo : List ℕ) (m : ℕ) (same : m ≡ length memo) (found : Follows r best o words (definition.search r (pairs r) setting (memoRoom m))) where
+  follows : Follows r best o words (definition.search r (pairs r) setting (memoRoom (length memo)))
   follows = subst (λ (k : ℕ). Follows r best o words (definition.search r (pairs r) setting (memoRoom k))) same found
 
   module _ (zero : o .row ≡ 0) where
     -- an answer has at most 32 removals
     pub found-short : o .length ≤ 32
-    found-short = answer-short r best o words (definition.search r (pairs r) setting (memoRoom n)) follows zero
+    found-short = answer-short r best o words (definition.search r (pairs r) setting (memoRoom (length memo))) follows zero
 
     -- they are written into the trail: a score
-    pub found-scored : length (o .trail) ≡ 32 → (matches : ℕ) → matches ≡ length (pairs r) → (old end : List ℕ) → end ≡ take (o .length) (o .trail) ++ (replicate (32 - o .length) 0 ++ drop 32 old)
-        → (scored (o .answer) matches (o .states) (take (o .length) end) ≡ searched (matchTable r) (definition.search r (pairs r) setting (memoRoom n))) × (end ≡ trailAfter (searched (matchTable r) (definition.search r (pairs r) setting (memoRoom n))) old)
-    found-scored l matches c old end e = answer-scored r best o words (definition.search r (pairs r) setting (memoRoom n)) follows zero l (matchTable r) matches (c ∙ pairs-length (matchTable r)) old end e
+    pub found-scored : length (o .trail) ≡ 32 → (s : Score) → s .index ≡ o .answer → s .matches ≡ length (pairs r) → s .states ≡ o .run .states → s .length ≡ o .length → (old end : List ℕ)
+        → end ≡ take (o .length) (o .trail) ++ (replicate (32 - o .length) 0 ++ drop 32 old) → AnswerTold (searchAnswer r setting memo) (says.Score s) old end
+    found-scored l s i c n k old end e =
+        let w = answer-scored r best o words (definition.search r (pairs r) setting (memoRoom (length memo))) follows zero l (matchTable r) (s .matches) (c ∙ pairs-length (matchTable r)) old end e in
+        record { answer = rw (i, n, k) (w .0); ends = w .1 }
 
   -- row 11 or 12, and the trail as it was
   module _ (some : o .row ≡ 0 → ⊥) (old : List ℕ) where
-    halted : (turnedBack (o .row) (o .place) ≡ searched (matchTable r) (definition.search r (pairs r) setting (memoRoom n))) × (old ≡ trailAfter (searched (matchTable r) (definition.search r (pairs r) setting (memoRoom n))) old)
-    halted = answer-halted r best o words (definition.search r (pairs r) setting (memoRoom n)) follows some (matchTable r) old
+    halted : (turnedBack (o .row) (o .place) ≡ searchAnswer r setting memo) × (old ≡ trailAfter (searchAnswer r setting memo) old)
+    halted = answer-halted r best o words (definition.search r (pairs r) setting (memoRoom (length memo))) follows some (matchTable r) old
 
-    pub found-eleven : o .row ≡ 11 → (turnedBack 11 (o .place) ≡ searched (matchTable r) (definition.search r (pairs r) setting (memoRoom n))) × (old ≡ trailAfter (searched (matchTable r) (definition.search r (pairs r) setting (memoRoom n))) old)
-    found-eleven e = rw (← e) halted
+    pub found-eleven : o .row ≡ 11 → AnswerTold (searchAnswer r setting memo) (says.Budget (o .place)) old old
+    found-eleven e = record { answer = rw e at (halted .0); ends = halted .1 }
 
-    pub found-twelve : (o .row ≡ 11 → ⊥) → (turnedBack 12 (o .place) ≡ searched (matchTable r) (definition.search r (pairs r) setting (memoRoom n))) × (old ≡ trailAfter (searched (matchTable r) (definition.search r (pairs r) setting (memoRoom n))) old)
-    found-twelve f = ⊎-elim (λ (e : o .row ≡ 11). absurd (f e)) (λ (e : o .row ≡ 12). rw (← e) halted) (answer-row r best o words setting (definition.search r (pairs r) setting (memoRoom n)) follows (score.accepted-ends r ok setting (memoRoom n)) some)
+    pub found-twelve : (o .row ≡ 11 → ⊥) → AnswerTold (searchAnswer r setting memo) (says.Memo (o .place)) old old
+    found-twelve f = ⊎-elim (λ (e : o .row ≡ 11). absurd (f e)) (λ (e : o .row ≡ 12). record { answer = rw e at (halted .0); ends = halted .1 })
+        (answer-row r best o words setting (definition.search r (pairs r) setting (memoRoom (length memo))) follows (score.accepted-ends r ok setting (memoRoom (length memo))) some)
 
 -- ---- demand 3
 
@@ -273,6 +277,7 @@ demanded r setting room index matches states trail e = record {
   increasing = score.trail-ascends r setting room index matches states trail e;
   series = score.trail-allowed r setting room index matches states trail e;
   scores = sym (score.trail-scores r setting room index matches states trail e);
+  exact = score.score-exact r (score.scored-accepted r setting room index matches states trail e);
   atLeast = score.index-least r setting room index matches states trail e;
   isLeast = score.index-is-least r setting room index matches states trail e;
   least = score.index-is r setting room index matches states trail e;
@@ -286,6 +291,13 @@ demanded r setting room index matches states trail e = record {
 }
 
 -- so it holds of what score's enum says, with the trail then
-pub demand-met : (r : Bytes) (setting : Setting) (room : Room) (x : Scored) (trail : List ℕ) → answerOf x trail ≡ scoreAnswer r setting room → (s : Score) → x ≡ says.Score s
-    → Demand3 r (setting .memo) (setting .budget) (s .index) (s .states) (take (s .length) trail)
-demand-met r setting room x trail e s f = demanded r setting room (s .index) (s .matches) (s .states) (take (s .length) trail) (sym e ∙ ap (λ (y : Scored). answerOf y trail) f)
+pub answers-by : {r : Bytes} {setting : Setting} {lent now : Loan} {x : Scored} → answerOf x (now .trail) ≡ answerTo r setting lent → Leaves (answerTo r setting lent) lent now → Answers r setting lent now x
+answers-by {r} {setting} {lent} {now} {x} e l = record {
+  answer = e;
+  leaves = l;
+  demand3 = λ s f. demanded r setting (roomOf lent) (s .index) (s .matches) (s .states) (take (s .length) (now .trail)) (sym e ∙ ap (λ (y : Scored). answerOf y (now .trail)) f);
+}
+
+-- and of a record that rows 1 to 8 turn back
+pub answers-early : {r : Bytes} {setting : Setting} {lent : Loan} {x : Scored} {k p : ℕ} → Early (answerTo r setting lent) k p → answerOf x (lent .trail) ≡ turnedBack k p → Answers r setting lent lent x
+answers-early {lent = lent} w f = answers-by (f ∙ w .answer) (w .leaves lent)

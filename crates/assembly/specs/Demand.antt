@@ -2,12 +2,13 @@
 use mathlib.Core.Path.{_≡_}
 use mathlib.Core.Bool.{true}
 use mathlib.Core.List.{List}
-use Prim.Native.Nat.{ℕ, _≤_}
+use Prim.Native.Nat.{ℕ, _+_, _-_, _≤_}
 use lib.ListN.{length}
 use Rattle.bitset.specs.Bits.{Ascending}
 use Rattle.molecule.specs.Lists.{Bytes}
+use Rattle.molecule.specs.Record.{bonds}
 use Rattle.matches.specs.Table.{pairs}
-use Rattle.search.specs.Series.{allowed, seriesScore, leastScore, IsLeastScore}
+use Rattle.search.specs.Series.{allowed, saved, seriesScore, leastScore, IsLeastScore}
 use Rattle.search.specs.Pathway.{isPathway, HasPathway, joins}
 
 -- with this memo and budget the record has been answered index, states and the removals of the trail
@@ -18,6 +19,8 @@ pub record Demand3 (r : Bytes) (memo budget index states : ℕ) (trail : List �
   pub series : allowed r (pairs r) trail ≡ true
   -- and score exactly the index answered
   pub scores : seriesScore r (pairs r) trail ≡ index
+  -- no series' score is cut short: it is bonds less one, less (size less one) for each removal
+  pub exact : (τ : List ℕ) → allowed r (pairs r) τ ≡ true → seriesScore r (pairs r) τ + saved (pairs r) τ ≡ bonds r - 1
   -- with the memo off every series of removals that the match table allows, the empty one included, scores at least the index answered
   pub atLeast : memo ≡ 0 → (τ : List ℕ) → allowed r (pairs r) τ ≡ true → index ≤ seriesScore r (pairs r) τ
   -- so that the index is the least score of all those series, in words and as the number that computes

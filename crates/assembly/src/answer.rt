@@ -9,8 +9,10 @@ pub struct Score {
     pub length: u32,
 }
 
-// A score, or a row of document 01. Rows 1 to 6: why the record is turned back. 7: the setting. 8: the trail or the desk is too short. 9: the size at which parts has no room.
-// 10: the matches there are, for which pairs has no room. 11: the budget, which the search would exceed. 12: the states entered when every entry of the memo was used.
+// A score, or a row of document 01. Rows 1 to 6: why the record is turned back. 7: the setting. 8: the trail or the desk is too short. 9: the size
+// at which parts has no room.
+// 10: the matches there are, for which pairs has no room. 11: the budget, which the search would exceed. 12: the states entered when every entry of
+// the memo was used.
 pub enum Scored {
     Score(Score),
     Record(Fault),

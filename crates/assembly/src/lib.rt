@@ -1,4 +1,6 @@
 // score (`index_search` of src/assembly.rs).
+pub use search::Setting;
+
 pub mod answer;
 mod find;
 pub mod score;

@@ -1,17 +1,14 @@
 // score: the public call. Rows 1 to 6 by check, 7 and 8, then the match table (rows 9 and 10), then the search (rows 11 and 12).
 ghost use mathlib.Core.Path.{_≡_};
-ghost use Prim.Native.Nat.{_≤_};
-ghost use lib.ListN.{length, take, replicate};
 ghost use Rattle.molecule.specs.Check.{check, accepted};
-ghost use Rattle.search.specs.Answer.{scoreAnswer, trailAfter, tableAfter};
-ghost use Rattle.recurse.specs.Follows.{settingOf};
-ghost use Rattle.assembly.specs.Answer.{answerOf, roomOf};
-ghost use Rattle.assembly.specs.Demand.{Demand3};
+ghost use Rattle.assembly.specs.Answer.{loan, answerTo};
+ghost use Rattle.assembly.specs.Contract.{Answers};
+ghost use Rattle.assembly.specs.Inner.Parts.{AnswerTold, Admitted, TablesZero};
 use crate::answer::Score;
 use crate::answer::Scored;
 use crate::find;
 use molecule::Verdict;
-use recurse::visit::Setting;
+use search::Setting;
 use tabulate::build;
 use tabulate::build::Built;
 
@@ -25,9 +22,9 @@ fn answer(
     memo: &mut [u64],
     desk: &mut [u64],
 ) -> Scored
-    requires { ⌜ (check (now bytes) ≡ accepted) × (setting .bounds ≤ 3) × (setting .memo ≤ 1) × (32 ≤ length (now trail)) × (4096 ≤ length (now desk)) ⌝ }
-    ensures answer { λ r. ⌜ answerOf r (now (trail .exit)) ≡ scoreAnswer (now (bytes .entry)) (settingOf setting) (roomOf (now (trail .entry)) (now (parts .entry)) (now (pairs .entry)) (now (memo .entry)) (now (desk .entry))) ⌝ }
-    ensures trail { λ r. ⌜ now (trail .exit) ≡ trailAfter (scoreAnswer (now (bytes .entry)) (settingOf setting) (roomOf (now (trail .entry)) (now (parts .entry)) (now (pairs .entry)) (now (memo .entry)) (now (desk .entry)))) (now (trail .entry)) ⌝ }
+    requires { ⌜ Admitted (now bytes) setting (loan (now trail) (now parts) (now pairs) (now memo) (now desk)) ⌝ }
+    ensures { λ r. ⌜ AnswerTold (answerTo (now (bytes .entry)) setting
+        (loan (now (trail .entry)) (now (parts .entry)) (now (pairs .entry)) (now (memo .entry)) (now (desk .entry)))) r (now (trail .entry)) (now (trail .exit)) ⌝ }
 {
     match build::build(bytes, parts, pairs) {
         Built::Count(n) => find::find(bytes, setting, trail, pairs, n, memo, desk),
@@ -46,13 +43,12 @@ fn answer_and_clear(
     memo: &mut [u64],
     desk: &mut [u64],
 ) -> Scored
-    requires { ⌜ (check (now bytes) ≡ accepted) × (setting .bounds ≤ 3) × (setting .memo ≤ 1) × (32 ≤ length (now trail)) × (4096 ≤ length (now desk)) ⌝ }
-    ensures answer { λ r. ⌜ answerOf r (now (trail .exit)) ≡ scoreAnswer (now (bytes .entry)) (settingOf setting) (roomOf (now (trail .entry)) (now (parts .entry)) (now (pairs .entry)) (now (memo .entry)) (now (desk .entry))) ⌝ }
-    ensures trail { λ r. ⌜ now (trail .exit) ≡ trailAfter (scoreAnswer (now (bytes .entry)) (settingOf setting) (roomOf (now (trail .entry)) (now (parts .entry)) (now (pairs .entry)) (now (memo .entry)) (now (desk .entry)))) (now (trail .entry)) ⌝ }
-    ensures parts { λ r. ⌜ now (parts .exit) ≡ replicate (length (now (parts .entry))) 0 ⌝ }
-    ensures pairs { λ r. ⌜ now (pairs .exit) ≡ replicate (length (now (pairs .entry))) 0 ⌝ }
-    ensures memo { λ r. ⌜ now (memo .exit) ≡ replicate (length (now (memo .entry))) 0 ⌝ }
-    ensures desk { λ r. ⌜ now (desk .exit) ≡ replicate (length (now (desk .entry))) 0 ⌝ }
+    requires { ⌜ Admitted (now bytes) setting (loan (now trail) (now parts) (now pairs) (now memo) (now desk)) ⌝ }
+    ensures told { λ r. ⌜ AnswerTold (answerTo (now (bytes .entry)) setting
+        (loan (now (trail .entry)) (now (parts .entry)) (now (pairs .entry)) (now (memo .entry)) (now (desk .entry)))) r (now (trail .entry)) (now (trail .exit)) ⌝ }
+    ensures cleared { λ r. ⌜ TablesZero
+        (loan (now (trail .entry)) (now (parts .entry)) (now (pairs .entry)) (now (memo .entry)) (now (desk .entry)))
+        (loan (now (trail .exit)) (now (parts .exit)) (now (pairs .exit)) (now (memo .exit)) (now (desk .exit))) ⌝ }
 {
     let scored = answer(bytes, setting, trail, parts, pairs, memo, desk);
     clear::zero(parts);
@@ -73,12 +69,9 @@ fn score_accepted(
     desk: &mut [u64],
 ) -> Scored
     requires { ⌜ check (now bytes) ≡ accepted ⌝ }
-    ensures answer { λ r. ⌜ answerOf r (now (trail .exit)) ≡ scoreAnswer (now (bytes .entry)) (settingOf setting) (roomOf (now (trail .entry)) (now (parts .entry)) (now (pairs .entry)) (now (memo .entry)) (now (desk .entry))) ⌝ }
-    ensures trail { λ r. ⌜ now (trail .exit) ≡ trailAfter (scoreAnswer (now (bytes .entry)) (settingOf setting) (roomOf (now (trail .entry)) (now (parts .entry)) (now (pairs .entry)) (now (memo .entry)) (now (desk .entry)))) (now (trail .entry)) ⌝ }
-    ensures parts { λ r. ⌜ now (parts .exit) ≡ tableAfter (scoreAnswer (now (bytes .entry)) (settingOf setting) (roomOf (now (trail .entry)) (now (parts .entry)) (now (pairs .entry)) (now (memo .entry)) (now (desk .entry)))) (now (parts .entry)) ⌝ }
-    ensures pairs { λ r. ⌜ now (pairs .exit) ≡ tableAfter (scoreAnswer (now (bytes .entry)) (settingOf setting) (roomOf (now (trail .entry)) (now (parts .entry)) (now (pairs .entry)) (now (memo .entry)) (now (desk .entry)))) (now (pairs .entry)) ⌝ }
-    ensures memo { λ r. ⌜ now (memo .exit) ≡ tableAfter (scoreAnswer (now (bytes .entry)) (settingOf setting) (roomOf (now (trail .entry)) (now (parts .entry)) (now (pairs .entry)) (now (memo .entry)) (now (desk .entry)))) (now (memo .entry)) ⌝ }
-    ensures desk { λ r. ⌜ now (desk .exit) ≡ tableAfter (scoreAnswer (now (bytes .entry)) (settingOf setting) (roomOf (now (trail .entry)) (now (parts .entry)) (now (pairs .entry)) (now (memo .entry)) (now (desk .entry)))) (now (desk .entry)) ⌝ }
+    ensures { λ r. ⌜ Answers (now (bytes .entry)) setting
+        (loan (now (trail .entry)) (now (parts .entry)) (now (pairs .entry)) (now (memo .entry)) (now (desk .entry)))
+        (loan (now (trail .exit)) (now (parts .exit)) (now (pairs .exit)) (now (memo .exit)) (now (desk .exit))) r ⌝ }
 {
     if 3 < setting.bounds {
         return Scored::Setting;
@@ -105,13 +98,9 @@ pub fn score(
     memo: &mut [u64],
     desk: &mut [u64],
 ) -> Scored
-    ensures answer { λ r. ⌜ answerOf r (now (trail .exit)) ≡ scoreAnswer (now (bytes .entry)) (settingOf setting) (roomOf (now (trail .entry)) (now (parts .entry)) (now (pairs .entry)) (now (memo .entry)) (now (desk .entry))) ⌝ }
-    ensures trail { λ r. ⌜ now (trail .exit) ≡ trailAfter (scoreAnswer (now (bytes .entry)) (settingOf setting) (roomOf (now (trail .entry)) (now (parts .entry)) (now (pairs .entry)) (now (memo .entry)) (now (desk .entry)))) (now (trail .entry)) ⌝ }
-    ensures parts { λ r. ⌜ now (parts .exit) ≡ tableAfter (scoreAnswer (now (bytes .entry)) (settingOf setting) (roomOf (now (trail .entry)) (now (parts .entry)) (now (pairs .entry)) (now (memo .entry)) (now (desk .entry)))) (now (parts .entry)) ⌝ }
-    ensures pairs { λ r. ⌜ now (pairs .exit) ≡ tableAfter (scoreAnswer (now (bytes .entry)) (settingOf setting) (roomOf (now (trail .entry)) (now (parts .entry)) (now (pairs .entry)) (now (memo .entry)) (now (desk .entry)))) (now (pairs .entry)) ⌝ }
-    ensures memo { λ r. ⌜ now (memo .exit) ≡ tableAfter (scoreAnswer (now (bytes .entry)) (settingOf setting) (roomOf (now (trail .entry)) (now (parts .entry)) (now (pairs .entry)) (now (memo .entry)) (now (desk .entry)))) (now (memo .entry)) ⌝ }
-    ensures desk { λ r. ⌜ now (desk .exit) ≡ tableAfter (scoreAnswer (now (bytes .entry)) (settingOf setting) (roomOf (now (trail .entry)) (now (parts .entry)) (now (pairs .entry)) (now (memo .entry)) (now (desk .entry)))) (now (desk .entry)) ⌝ }
-    ensures demand3 { λ r. ⌜ ((s : Score) → r ≡ Scored.Score s → Demand3 (now (bytes .entry)) (setting .memo) (setting .budget) (s .index) (s .states) (take (s .length) (now (trail .exit)))) ⌝ }
+    ensures { λ r. ⌜ Answers (now (bytes .entry)) setting
+        (loan (now (trail .entry)) (now (parts .entry)) (now (pairs .entry)) (now (memo .entry)) (now (desk .entry)))
+        (loan (now (trail .exit)) (now (parts .exit)) (now (pairs .exit)) (now (memo .exit)) (now (desk .exit))) r ⌝ }
 {
     match molecule::check(bytes) {
         Verdict::Accepted => score_accepted(bytes, setting, trail, parts, pairs, memo, desk),

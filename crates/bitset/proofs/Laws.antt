@@ -449,3 +449,13 @@ members-first s i p h l = members-turn s i (bitAnd s (s - 1)) p h l (without-low
 pub members-done : (s : ℕ) → s ≡ 0 → members s ≡ []
 unfolding membersFrom
 members-done s e = ap members e
+
+-- ---- unions, element by element
+
+pub unions-none : (f : ℕ → ℕ) → unions f [] ≡ 0
+unfolding unions
+unions-none f = refl
+
+pub unions-more : (f : ℕ → ℕ) (i : ℕ) (l : List ℕ) → unions f (i ∷ l) ≡ bitOr (f i) (unions f l)
+unfolding unions
+unions-more f i l = refl

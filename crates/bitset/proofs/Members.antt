@@ -71,6 +71,10 @@ bit-members s i h = Memᴰ·cast (sym (zero-add i)) (bit-mem i 0 s h)
 -- ---- the set of the numbers that pass a test
 
 module _ (p : ℕ → Bool) where
+  pub setOf-none : setOf p 0 ≡ 0
+  unfolding setOf
+  setOf-none = refl
+
   pub setOf-lt : (n : ℕ) → setOf p n < 2 ^ n
   unfolding setOf
   setOf-lt zero = pow-pos 0

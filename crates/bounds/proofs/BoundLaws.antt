@@ -6,7 +6,7 @@ use Prim.Native.Nat.{ℕ, zero, suc, _+_, _-_, _*_, _/_, _%_, _≤_, _<_}
 use native.Mathlib.Nat.{le-div-iff-mul-le, div-add-mod, mod-lt, mul-div-le, mul-le-mul-left, le-of-mul-le-mul-left, div-self, lt-of-mul-lt-mul-left}
 use native.Mathlib.Omega.{arith}
 use Rattle.bounds.specs.Numbers.{ceilDiv}
-use Rattle.bounds.specs.Saving.{cost, saving}
+use Rattle.bounds.specs.Inner.Saving.{cost, saving}
 use Rattle.bounds.proofs.Numbers.{ceil-le, le-ceil}
 
 -- ---- the cost is the least n with T + n ≤ k * n + R / k

@@ -1,21 +1,25 @@
 -- The two bounds of the search are bounds: Int (`int-bounds`), and the Rust's `usable_edges_bound` (`usable-bounds`). Over any
 -- lower bound c of addition chains; ceiling log2 is one (`log-bound`, proofs/ChainLaws). Assumes nothing.
 use mathlib.Core.Path.{_≡_, refl, ap}
+use mathlib.Core.Bool.{not}
 use mathlib.Core.List.{List, [], _∷_, List·Memᴰ, List·Memᴰ·head, List·Memᴰ·tail}
 use Prim.Native.Nat.{ℕ, zero, suc, _+_, _-_, _*_, _/_, _%_, _≤_, _<_}
 use native.Mathlib.Nat.{div-add-mod}
 use native.Mathlib.Omega.{arith}
 use lib.Bits.{bitAnd, and-self}
+use borrow.Author.Tests.{leb-true, not-false}
 use Rattle.bitset.specs.Bits.{Sub, size}
 use Rattle.bitset.proofs.Laws.{sub-trans}
 use Rattle.molecule.specs.Lists.{numbersFrom}
+use Rattle.molecule.proofs.Scans.{from-before, from-cong}
+use Rattle.molecule.proofs.Lists.{numbers-bounds, numbers-mem}
 use Rattle.bounds.specs.Numbers.{sumOf, ceilDiv}
-use Rattle.bounds.specs.Bounds.{usableEdges, intTerm, intBound, usableEdgesBound}
-use Rattle.bounds.specs.Saving.{cost, saving}
+use Rattle.bounds.specs.Bounds.{usableEdges, intTerm, intBound, usableEdgesBound, leftOut, leastSize}
+use Rattle.bounds.specs.Inner.Saving.{cost, saving}
 use Rattle.bounds.specs.Chain.{LowerBound}
-use Rattle.bounds.specs.Removals.{Within, whole, Removal, Series, savings, AllFit, gain, AllMost, Falls}
-use Rattle.bounds.specs.Removals.Series.{done, next}
-use Rattle.bounds.proofs.Numbers.{sum-same, sum-le, mem-sum, le-max, max-le, max-reached, mem-numbers, numbers-range}
+use Rattle.bounds.specs.Inner.Removals.{PiecesWithin, whole, Removal, Series, savings, AllFit, gain, AllMost, Falls}
+use Rattle.bounds.specs.Inner.Removals.Series.{done, next}
+use Rattle.bounds.proofs.Numbers.{sum-same, sum-le, mem-sum, le-max, max-le, max-reached}
 use Rattle.bounds.proofs.BoundLaws.{saving-cost, saving-grows, saving-full, saving-le, cost-all, cost-pos, cost-self}
 use Rattle.bounds.proofs.ChainLaws.{lower-lt}
 use Rattle.bounds.proofs.Savings.{savings-first, and-sub, and-le}
@@ -54,7 +58,7 @@ module _ (c : ℕ → ℕ) (k F W : ℕ) (within : Sub F W) where
 -- ---- Int
 
 -- every removal of size k at most fits, where the pieces are within U
-pub all-fit : (k U : ℕ) {P : List ℕ} {τ : List Removal} → Series P τ → Within U P → AllMost k τ → AllFit k U U τ
+pub all-fit : (k U : ℕ) {P : List ℕ} {τ : List Removal} → Series P τ → PiecesWithin U P → AllMost k τ → AllFit k U U τ
 all-fit k U done w a = tt
 all-fit k U (next {P = P} {m = m} st s) w a =
     let i = step-first st in
@@ -68,7 +72,7 @@ pub gain-all : (k U p : ℕ) → 2 ≤ k → Sub p U → gain k U U p + ceilDiv 
 gain-all k U p two h = rw h (omega (arith, saving-cost k two (size p) (size p) (omega arith), cost-all k two (size p)))
 
 -- and for all pieces
-pub sum-gain-all : (k U : ℕ) (P : List ℕ) → 2 ≤ k → Within U P → sumOf (gain k U U) P + sumOf (λ (p : ℕ). ceilDiv (size p) k) P ≡ sumOf size P
+pub sum-gain-all : (k U : ℕ) (P : List ℕ) → 2 ≤ k → PiecesWithin U P → sumOf (gain k U U) P + sumOf (λ (p : ℕ). ceilDiv (size p) k) P ≡ sumOf size P
 sum-gain-all k U [] two w = refl
 sum-gain-all k U (p ∷ P) two w = omega (arith, gain-all k U p two (w p (List·Memᴰ·head refl)), sum-gain-all k U P two (λ q i. w q (List·Memᴰ·tail i)))
 
@@ -99,14 +103,14 @@ module _ (c : ℕ → ℕ) (b : LowerBound c) where
   -- the bound is at least each of its terms
   pub int-most : (P : List ℕ) (n t : ℕ) → 2 ≤ t → t ≤ n → intTerm c P t ≤ intBound c P n
   unfolding intBound
-  int-most P n t h l = le-max (intTerm c P) (numbersFrom 2 (n - 1)) t (mem-numbers 2 (n - 1) t h (omega arith))
+  int-most P n t h l = le-max (intTerm c P) (numbersFrom 2 (n - 1)) t (numbers-mem (n - 1) 2 t h (omega arith))
 
   -- and is one of them, where it is not 0
   pub int-reached : (P : List ℕ) (n : ℕ) → 0 < intBound c P n → (t : ℕ) × (2 ≤ t) × (t ≤ n) × (intTerm c P t ≡ intBound c P n)
   unfolding intBound
   int-reached P n h =
       let w = max-reached (intTerm c P) (numbersFrom 2 (n - 1)) h in
-      let r = numbers-range 2 (n - 1) (w .0) (w .1) in
+      let r = numbers-bounds (n - 1) 2 (w .1) in
       (w .0, r .0, omega (arith, r .0, r .1), w .2)
 
   -- No series whose sizes do not grow, the first at most n, saves more than Int says. The empty one saves 0; any other is bounded by
@@ -155,4 +159,21 @@ int-term-le c P t two =
 pub int-le : (c : ℕ → ℕ) (P : List ℕ) (n : ℕ) → intBound c P n ≤ sumOf (λ (p : ℕ). size p - 1) P
 unfolding intBound
 int-le c P n =
-    max-le (intTerm c P) (numbersFrom 2 (n - 1)) (sumOf (λ (p : ℕ). size p - 1) P) (λ t i. int-term-le c P t (numbers-range 2 (n - 1) t i .0))
+    max-le (intTerm c P) (numbersFrom 2 (n - 1)) (sumOf (λ (p : ℕ). size p - 1) P) (λ t i. int-term-le c P t (numbers-bounds (n - 1) 2 i .0))
+
+-- ---- the least size tried
+
+module _ (cost mask : ℕ → ℕ) (pieces : List ℕ) (index best largest : ℕ) where
+  -- a size below the least size tried is left out: index is at least its bound plus best
+  pub below-least : (k : ℕ) → 2 ≤ k → k < leastSize cost mask pieces index best largest → usableEdgesBound cost (mask 2) (mask k) pieces k + best ≤ index
+  unfolding leastSize leftOut
+  below-least k two l =
+      let f = from-before (λ j. not (leftOut cost mask pieces index best j)) 2 (largest - 1) k two l in
+      leb-true (usableEdgesBound cost (mask 2) (mask k) pieces k + best) index (not-false (leftOut cost mask pieces index best k) f)
+
+-- masks that agree from 2 to the largest size give one least size
+pub least-same : (cost f g : ℕ → ℕ) (pieces : List ℕ) (index best largest : ℕ) → f 2 ≡ g 2 → ((k : ℕ) → 2 ≤ k → k ≤ largest → f k ≡ g k)
+    → leastSize cost f pieces index best largest ≡ leastSize cost g pieces index best largest
+unfolding leastSize leftOut
+least-same cost f g pieces index best largest e h =
+    from-cong (λ k. not (leftOut cost f pieces index best k)) (λ k. not (leftOut cost g pieces index best k)) 2 (largest - 1) (λ k a b. rw (e, h k a (omega arith)))

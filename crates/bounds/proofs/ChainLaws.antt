@@ -7,10 +7,9 @@ use native.Mathlib.Nat.{pow-suc}
 use native.Mathlib.Omega.{arith}
 use lib.Pow.{pow-pos}
 use lib.ListN.{length}
-use Rattle.molecule.specs.Lists.{firstFrom}
 use Rattle.bounds.specs.Numbers.{ceilLog2}
 use Rattle.bounds.specs.Chain.{Known, Chain, LowerBound}
-use Rattle.bounds.proofs.Numbers.{log-least}
+use Rattle.bounds.proofs.Numbers.{log-least, log-one}
 
 -- ---- what a list knows
 
@@ -47,8 +46,7 @@ chain-le (x ∷ L) n c (inr m) =
 
 -- so ceiling log2 is a lower bound
 pub log-bound : LowerBound ceilLog2
-unfolding ceilLog2 firstFrom
-log-bound = record { at-one = refl; below = λ L k c m. log-least k (length L) (chain-le L k c (inr m)) }
+log-bound = record { at-one = log-one 1 (omega arith); below = λ L k c m. log-least k (length L) (chain-le L k c (inr m)) }
 
 -- a lower bound holds of 1 too
 pub lower-known : (c : ℕ → ℕ) → LowerBound c → (L : List ℕ) (k : ℕ) → Chain L → Known L k → c k ≤ length L

@@ -1,20 +1,20 @@
 -- Loops: a sum over a list, a list written from its front, the largest term, and the first size that is not left out. Assumes nothing.
-use mathlib.Core.Path.{_≡_, refl, ap, _∙_}
-use mathlib.Core.Bool.{true, false, not}
+use mathlib.Core.Path.{_≡_, refl, sym, ap, _∙_}
+use mathlib.Core.Bool.{Bool, true, false, not}
 use mathlib.Core.List.{List, [], _∷_, _++_, map, map-append}
 use Prim.Native.Nat.{ℕ, suc, _+_, _-_, _*_, _^_, _≤_, _<_, max}
 use native.Mathlib.Nat.{mul-suc, sub-zero}
 use native.Mathlib.Numerals.{add-one}
 use native.Mathlib.Omega.{arith}
 use lib.Bits.{bitAnd, and-le-r}
-use lib.Dec.{leb}
 use borrow.Author.Tests.{le-leb, lt-leb}
 use lib.ListN.{length, getD, take, drop, set, drop-of-length-le}
 use lib.Seq.{drop-cons, take-suc, take-at, take-length}
 use Rattle.bitset.specs.Bits.{size}
 use Rattle.bitset.proofs.Laws.{size-le}
 use Rattle.molecule.specs.Lists.{firstFrom, numbersFrom}
-use Rattle.molecule.proofs.Lists.{Front, front-put}
+use Rattle.molecule.proofs.Scans.{scan-hit, scan-next, from-none}
+use Rattle.molecule.proofs.Lists.{Front, front-start, front-put, numbers-none, numbers-more}
 use Rattle.bounds.specs.Numbers.{sumOf, maxOf, ceilDiv, ceilLog2}
 use Rattle.bounds.specs.Bounds.{usableEdges, intTerm, intBound, usableEdgesBound, leftOut, leastSize}
 use Rattle.bounds.proofs.Numbers.{sum-le, ceil-small}
@@ -60,22 +60,22 @@ sum-map f g (x ∷ l) = ap (λ (n : ℕ). f (g x) + n) (sum-map f g l)
 
 module _ (pieces : List ℕ) where
   -- those of the first i stand at the front
-  abbrev pub Sized : List ℕ → List ℕ → ℕ → Type 0
-  Sized old now i = (i ≤ length pieces) × Front old now i (map size (take i pieces))
+  abbrev pub SizesPut : List ℕ → List ℕ → ℕ → Type 0
+  SizesPut old now i = (i ≤ length pieces) × Front old now i (map size (take i pieces))
 
   -- at the start none
-  pub sized-start : (old : List ℕ) → Sized old old 0
-  sized-start old = (omega arith, record { count = refl; is = refl })
+  pub sized-start : (old : List ℕ) → SizesPut old old 0
+  sized-start old = (omega arith, front-start old)
 
   -- the next piece's size is put after them
-  pub sized-next : (old now : List ℕ) (i x : ℕ) → Sized old now i → i < length pieces → length pieces ≤ length old → x ≡ size (getD pieces i 0) → Sized old (set now i x) (i + 1)
+  pub sized-next : (old now : List ℕ) (i x : ℕ) → SizesPut old now i → i < length pieces → length pieces ≤ length old → x ≡ size (getD pieces i 0) → SizesPut old (set now i x) (i + 1)
   sized-next old now i x s h l e = (omega arith, rw (one e) (front-put old now i (map size (take i pieces)) x (s .1) (omega arith)))
     where
       one : x ≡ size (getD pieces i 0) → map size (take (i + 1) pieces) ≡ map size (take i pieces) ++ (x ∷ [])
       one e = rw (add-one i, take-suc pieces i 0 h, e) (map-append size (take i pieces) (getD pieces i 0 ∷ []))
 
   -- past the last, all stand there
-  pub sized-done : (old now : List ℕ) (i : ℕ) → Sized old now i → length pieces ≤ i → take (length pieces) now ≡ map size pieces
+  pub sized-done : (old now : List ℕ) (i : ℕ) → SizesPut old now i → length pieces ≤ i → take (length pieces) now ≡ map size pieces
   sized-done old now i s h =
       let e : i ≡ length pieces = omega arith in
       ap (take (length pieces)) (s .1 .is) ∙ take-at (map size (take i pieces)) (drop i old) (length pieces) (s .1 .count ∙ e)
@@ -113,8 +113,7 @@ module _ (pieces : List ℕ) (largest : ℕ) where
 
   -- the next term
   turn : (t : ℕ) → t ≤ largest → maxOf (intTerm ceilLog2 pieces) (numbersFrom t ((largest + 1) - t)) ≡ max (intTerm ceilLog2 pieces t) (maxOf (intTerm ceilLog2 pieces) (numbersFrom (t + 1) ((largest + 1) - (t + 1))))
-  unfolding numbersFrom
-  turn t h = let e : (largest + 1) - t ≡ suc ((largest + 1) - (t + 1)) = omega arith in rw (e, add-one t)
+  turn t h = let e : (largest + 1) - t ≡ suc ((largest + 1) - (t + 1)) = omega arith in rw (e, numbers-more t ((largest + 1) - (t + 1)), add-one t)
 
   -- a larger term is kept
   pub reached-more : (t best x : ℕ) → Reached t best → t ≤ largest → x ≡ intTerm ceilLog2 pieces t → best < x → Reached (t + 1) x
@@ -126,10 +125,9 @@ module _ (pieces : List ℕ) (largest : ℕ) where
 
   -- past the last, the largest is found
   pub reached-done : (t best : ℕ) → Reached t best → largest < t → best ≡ intBound ceilLog2 pieces largest
-  unfolding numbersFrom
   reached-done t best r h =
       let e : (largest + 1) - t ≡ 0 = omega arith in
-      let z : max best (maxOf (intTerm ceilLog2 pieces) (numbersFrom t 0)) ≡ intBound ceilLog2 pieces largest = rw e at r in
+      let z : max best 0 ≡ intBound ceilLog2 pieces largest = rw (e, numbers-none t) at r in
       omega (arith, z)
 
 -- ---- counts of usable bonds
@@ -148,33 +146,36 @@ usable-bound-small w f pieces k h =
 -- ---- the first size that is not left out
 
 module _ (mask : ℕ → ℕ) (pieces : List ℕ) (index best largest : ℕ) where
+  -- a size is tried, or left out
+  abbrev isTried : ℕ → Bool
+  isTried k = not (leftOut ceilLog2 mask pieces index best k)
+
+  tries : (k : ℕ) → index < usableEdgesBound ceilLog2 (mask 2) (mask k) pieces k + best → isTried k ≡ true
+  unfolding leftOut
+  tries k l = rw (lt-leb (usableEdgesBound ceilLog2 (mask 2) (mask k) pieces k + best) index l)
+
+  leaves : (k : ℕ) → usableEdgesBound ceilLog2 (mask 2) (mask k) pieces k + best ≤ index → isTried k ≡ false
+  unfolding leftOut
+  leaves k l = rw (le-leb (usableEdgesBound ceilLog2 (mask 2) (mask k) pieces k + best) index l)
+
   -- before k: the first of those left is the first of all
   abbrev pub Leaving : ℕ → Type 0
-  Leaving k = firstFrom (λ k. not (leftOut ceilLog2 mask pieces index best k)) k ((largest + 1) - k) ≡ leastSize ceilLog2 mask pieces index best largest
+  Leaving k = firstFrom isTried k ((largest + 1) - k) ≡ leastSize ceilLog2 mask pieces index best largest
 
   -- at the start all are left
   pub leaving-start : Leaving 2
   unfolding leastSize
-  leaving-start = ap (firstFrom (λ k. not (leftOut ceilLog2 mask pieces index best k)) 2) (omega arith)
+  leaving-start = ap (firstFrom isTried 2) (omega arith)
 
   -- a size that is not left out is the first
   pub leaving-found : (k bound : ℕ) → Leaving k → k ≤ largest → bound ≡ usableEdgesBound ceilLog2 (mask 2) (mask k) pieces k → index < bound + best
       → k ≡ leastSize ceilLog2 mask pieces index best largest
-  unfolding firstFrom leftOut
-  leaving-found k bound s h e l =
-      let n : (largest + 1) - k ≡ suc (largest - k) = omega arith in
-      let t : leb (usableEdgesBound ceilLog2 (mask 2) (mask k) pieces k + best) index ≡ false = lt-leb (usableEdgesBound ceilLog2 (mask 2) (mask k) pieces k + best) index (omega arith) in
-      rw (n, firstFrom, t) at s
+  leaving-found k bound s h e l = sym (scan-hit isTried k (largest + 1) (omega arith) (tries k (omega arith))) ∙ s
 
   -- one that is left out is passed
   pub leaving-next : (k bound : ℕ) → Leaving k → k ≤ largest → bound ≡ usableEdgesBound ceilLog2 (mask 2) (mask k) pieces k → bound + best ≤ index → Leaving (k + 1)
-  unfolding firstFrom leftOut
-  leaving-next k bound s h e l =
-      let n : (largest + 1) - k ≡ suc ((largest + 1) - suc k) = omega arith in
-      let t : leb (usableEdgesBound ceilLog2 (mask 2) (mask k) pieces k + best) index ≡ true = le-leb (usableEdgesBound ceilLog2 (mask 2) (mask k) pieces k + best) index (omega arith) in
-      rw (add-one k) (rw (n, firstFrom, t) at s)
+  leaving-next k bound s h e l = sym (scan-next isTried k (largest + 1) (omega arith) (leaves k (omega arith))) ∙ s
 
   -- past the last, all are left out
   pub leaving-done : (k : ℕ) → Leaving k → largest < k → k ≡ leastSize ceilLog2 mask pieces index best largest
-  unfolding firstFrom
-  leaving-done k s h = let n : (largest + 1) - k ≡ 0 = omega arith in rw (n, firstFrom) at s
+  leaving-done k s h = let e : (largest + 1) - k ≡ 0 = omega arith in rw (e, from-none isTried k) at s

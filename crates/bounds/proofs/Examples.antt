@@ -8,9 +8,9 @@ use Rattle.bitset.specs.Bits.{size, diff}
 use Rattle.molecule.specs.Lists.{firstFrom, numbersFrom}
 use Rattle.bounds.specs.Numbers.{ceilLog2}
 use Rattle.bounds.specs.Bounds.{usableEdges, intTerm, intBound, usableEdgesBound, leftOut, leastSize}
-use Rattle.bounds.specs.Saving.{saving}
-use Rattle.bounds.specs.Removals.{Step, savings}
-use Rattle.bounds.specs.Removals.Series.{done, next}
+use Rattle.bounds.specs.Inner.Saving.{saving}
+use Rattle.bounds.specs.Inner.Removals.{Step, savings}
+use Rattle.bounds.specs.Inner.Removals.Series.{done, next}
 use Rattle.bounds.proofs.ChainLaws.{log-bound}
 use Rattle.bounds.proofs.Steps.{step-of}
 use Rattle.bounds.proofs.Bounds.{int-bounds}

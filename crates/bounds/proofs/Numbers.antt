@@ -1,18 +1,18 @@
 -- The laws of the roundings, sums and largest values of specs/Numbers. Assumes nothing.
 use mathlib.Core.Path.{_≡_, refl, sym, ap, _∙_}
-use mathlib.Core.Logic.{_⊎_, inl, inr, ⊎-elim}
+use mathlib.Core.Logic.{_⊎_, ⊎-elim}
 use mathlib.Core.Bool.{true≢false}
 use mathlib.Core.List.{List, [], _∷_, _++_, List·Memᴰ, List·Memᴰ·cases-cons, List·Memᴰ·not-nil, List·Memᴰ·head, List·Memᴰ·tail, List·Permᴰ, List·Permᴰ·nil, List·Permᴰ·cons, List·Permᴰ·swap, List·Permᴰ·trans}
-use Prim.Native.Nat.{ℕ, zero, suc, _+_, _-_, _*_, _/_, _^_, _≤_, _<_, max}
+use Prim.Native.Nat.{ℕ, suc, _+_, _-_, _*_, _/_, _^_, _≤_, _<_, max}
 use native.Mathlib.Nat.{div-lt-iff-lt-mul, div-add-mod, mod-lt, mul-le-mul-right, add-div-right, pow-suc}
-use native.Mathlib.Decide.{decLt, decLe, ℕ-discrete}
+use native.Mathlib.Decide.{decLt, decLe}
 use native.Mathlib.Omega.{arith}
 use lib.Count.{leadingZeros, leading-length}
 use lib.Dec.{leb}
 use lib.Pow.{pow-mono}
 use borrow.Author.Tests.{leb-true, le-leb}
 use Rattle.bitset.proofs.Laws.{lt-pow}
-use Rattle.molecule.specs.Lists.{first, numbersFrom}
+use Rattle.molecule.specs.Lists.{first}
 use Rattle.molecule.proofs.Scans.{first-le, first-hit, first-before}
 use Rattle.bounds.specs.Numbers.{sumOf, maxOf, ceilDiv, ceilLog2}
 
@@ -53,6 +53,10 @@ log-least t e h = go (decLt e (first (λ e. leb t (2 ^ e)) t))
     go : Dec (e < first (λ e. leb t (2 ^ e)) t) → first (λ e. leb t (2 ^ e)) t ≤ e
     go (yes l) = absurd (true≢false (sym (le-leb t (2 ^ e) h) ∙ first-before (λ e. leb t (2 ^ e)) t e l))
     go (no n) = omega arith
+
+-- it is 0 up to 1
+pub log-one : (t : ℕ) → t ≤ 1 → ceilLog2 t ≡ 0
+log-one t h = omega (arith, log-least t 0 h)
 
 -- the number of digits of t - 1
 pub log-digits : (t : ℕ) → 0 < t → t < 2 ^ 32 → 32 - leadingZeros 32 (t - 1) ≡ ceilLog2 t
@@ -112,25 +116,3 @@ max-reached {A} f (x ∷ l) h = go (decLe (maxOf f l) (f x)) (max-reached f l)
     go : Dec (maxOf f l ≤ f x) → (0 < maxOf f l → (y : A) × List·Memᴰ y l × (f y ≡ maxOf f l)) → (y : A) × List·Memᴰ y (x ∷ l) × (f y ≡ max (f x) (maxOf f l))
     go (yes le) r = (x, List·Memᴰ·head refl, omega arith)
     go (no n) r = let w = r (omega arith) in (w .0, List·Memᴰ·tail (w .1), omega (arith, w .2))
-
--- ---- the members of a range
-
--- each number of the range is one
-pub mem-numbers : (k n i : ℕ) → k ≤ i → i < k + n → List·Memᴰ i (numbersFrom k n)
-unfolding numbersFrom
-mem-numbers k zero i a b = absurd (omega arith)
-mem-numbers k (suc n) i a b = go (ℕ-discrete i k) (mem-numbers (suc k) n i)
-  where
-    go : Dec (i ≡ k) → (suc k ≤ i → i < suc k + n → List·Memᴰ i (numbersFrom (suc k) n)) → List·Memᴰ i (k ∷ numbersFrom (suc k) n)
-    go (yes e) r = List·Memᴰ·head e
-    go (no d) r = List·Memᴰ·tail (r (omega arith) (omega arith))
-
--- and there are no others
-pub numbers-range : (k n i : ℕ) → List·Memᴰ i (numbersFrom k n) → (k ≤ i) × (i < k + n)
-unfolding numbersFrom
-numbers-range k zero i m = absurd (List·Memᴰ·not-nil m)
-numbers-range k (suc n) i m = go (List·Memᴰ·cases-cons m) (numbers-range (suc k) n i)
-  where
-    go : (i ≡ k) ⊎ List·Memᴰ i (numbersFrom (suc k) n) → (List·Memᴰ i (numbersFrom (suc k) n) → (suc k ≤ i) × (i < suc k + n)) → (k ≤ i) × (i < k + suc n)
-    go (inl e) r = (omega arith, omega arith)
-    go (inr t) r = let w = r t in (omega (arith, w .0), omega (arith, w .1))

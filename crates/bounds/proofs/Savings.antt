@@ -19,8 +19,8 @@ use Rattle.bitset.proofs.Decide.{sets, v, and, less, is, sub}
 use Rattle.molecule.specs.Lists.{pick}
 use Rattle.bounds.specs.Numbers.{sumOf}
 use Rattle.bounds.specs.Chain.{Known, Chain, LowerBound}
-use Rattle.bounds.specs.Removals.{big, Split, Splits, Removal, Step, Series, savings, Fits, AllFit, gain, Small, Serves}
-use Rattle.bounds.specs.Removals.Series.{done, next}
+use Rattle.bounds.specs.Inner.Removals.{big, Split, Splits, Removal, Step, Series, savings, Fits, AllFit, gain, Small, KnowsSmall}
+use Rattle.bounds.specs.Inner.Removals.Series.{done, next}
 use Rattle.bounds.proofs.Numbers.{sum-append, sum-perm}
 use Rattle.bounds.proofs.BoundLaws.{saving-add, saving-few, saving-full, saving-le, saving-one}
 use Rattle.bounds.proofs.ChainLaws.{Longer, longer-none, longer-trans, longer-sum, longer-count, known-cast, known-head, lower-known}
@@ -134,7 +134,7 @@ pub record Served (k F W : ℕ) (L : List ℕ) (P : List ℕ) (spent : ℕ) : Ty
   pub chain : List ℕ
   pub more : ℕ
   pub longer : Longer L more chain
-  pub serves : Serves k F W chain P
+  pub serves : KnowsSmall k F W chain P
   pub pays : more + spent ≤ sumOf (gain k F W) P
 
 module _ (k F W : ℕ) (two : 2 ≤ k) (within : Sub F W) where
@@ -211,10 +211,10 @@ first-left m st = mem-perm (Permᴰ·symm (st .left)) (List·Memᴰ·head refl)
 
 module _ (k F W : ℕ) (two : 2 ≤ k) (within : Sub F W) where
   -- a small piece takes one entry for each part but one, which it pays as all are small (`small-sum`). Any other takes none, and B1 pays for its parts
-  serve-one : (L : List ℕ) (p : ℕ) (l : List ℕ) → Chain L → Split p l → Serves k F W L l → Served k F W L (p ∷ []) (sumOf (gain k F W) l)
+  serve-one : (L : List ℕ) (p : ℕ) (l : List ℕ) → Chain L → Split p l → KnowsSmall k F W L l → Served k F W L (p ∷ []) (sumOf (gain k F W) l)
   serve-one L p l c h sv = go l h sv (dec-small k F W p)
     where
-      go : (l : List ℕ) → Split p l → Serves k F W L l → Dec (Small k F W p) → Served k F W L (p ∷ []) (sumOf (gain k F W) l)
+      go : (l : List ℕ) → Split p l → KnowsSmall k F W L l → Dec (Small k F W p) → Served k F W L (p ∷ []) (sumOf (gain k F W) l)
       go l h sv (no n) = record {
         chain = L;
         more = 0;
@@ -237,7 +237,7 @@ module _ (k F W : ℕ) (two : 2 ≤ k) (within : Sub F W) where
   -- ---- all pieces, one after the other
 
   -- the parts of each piece are known, so the pieces can be
-  serve-all : (L : List ℕ) (P : List ℕ) (ls : List (List ℕ)) → Chain L → Splits P ls → Serves k F W L (flatten ls) → Served k F W L P (sumOf (gain k F W) (flatten ls))
+  serve-all : (L : List ℕ) (P : List ℕ) (ls : List (List ℕ)) → Chain L → Splits P ls → KnowsSmall k F W L (flatten ls) → Served k F W L P (sumOf (gain k F W) (flatten ls))
   unfolding flatten
   serve-all L [] [] c h sv = record { chain = L; more = 0; longer = longer-none L c; serves = λ q i s. absurd (List·Memᴰ·not-nil i); pays = omega arith }
   serve-all L [] (l ∷ ls) c h sv = absurd h
@@ -263,7 +263,7 @@ module _ (k F W : ℕ) (two : 2 ≤ k) (within : Sub F W) where
       ⊎-elim (λ w. rw (w .1) (omega (arith, ih))) (λ w. rw (w .1) (omega (arith, ih, gain-few k F W two within a (w .0)))) (big-cases a l)
 
   -- and what knows the sizes of those kept knows all
-  serves-big : (L l : List ℕ) → Serves k F W L (big l) → Serves k F W L l
+  serves-big : (L l : List ℕ) → KnowsSmall k F W L (big l) → KnowsSmall k F W L l
   serves-big L l sv p i s = ⊎-elim (λ m. sv p m s) (λ o. inl (omega (arith, s .some))) (big-mem l p i)
 
   -- ---- one removal
@@ -286,15 +286,15 @@ module _ (k F W : ℕ) (two : 2 ≤ k) (within : Sub F W) where
       fragment-small (m .second) (omega (arith, st .two, st .same)) (omega (arith, f .most, st .same)) (f .second-in) (λ e. f .full-second (omega (arith, st .same)))
 
   -- a chain for what is left grows to one for the pieces before, and these pay for that and for what is saved
-  pub step-serves : {P Q : List ℕ} (m : Removal) (L : List ℕ) → Step P m Q → Fits k F W m → Chain L → Serves k F W L Q
+  pub step-serves : {P Q : List ℕ} (m : Removal) (L : List ℕ) → Step P m Q → Fits k F W m → Chain L → KnowsSmall k F W L Q
       → Served k F W L P (size (m .first) - 1 + sumOf (gain k F W) Q)
   step-serves {P} {Q} m L st f c sv =
       let h1 = m .first in
       let h2 = m .second in
       let sf = first-small m st f in
       let known : Known L (size h1) = sv h1 (first-left m st) sf in
-      let rest : Serves k F W L (st .rest) = serves-big L (st .rest) (λ p i s. sv p (mem-perm (Permᴰ·symm (st .left)) (List·Memᴰ·tail i)) s) in
-      let all : Serves k F W L (h1 ∷ h2 ∷ st .rest) =
+      let rest : KnowsSmall k F W L (st .rest) = serves-big L (st .rest) (λ p i s. sv p (mem-perm (Permᴰ·symm (st .left)) (List·Memᴰ·tail i)) s) in
+      let all : KnowsSmall k F W L (h1 ∷ h2 ∷ st .rest) =
       λ p i s. ⊎-elim (λ e. known-cast L (size p) (size h1) (ap size e) known)
       (λ t. ⊎-elim (λ e. known-cast L (size p) (size h1) (ap size e ∙ st .same) known) (λ u. rest p u s) (List·Memᴰ·cases-cons t))
       (List·Memᴰ·cases-cons i) in
@@ -353,7 +353,7 @@ module _ (k F W : ℕ) (two : 2 ≤ k) (within : Sub F W) where
   -- what the pieces of P can save. By induction on the series: the chain for what a removal leaves grows to one for the pieces before it
   -- (`step-serves`), where the second fragment, being small, pays for what the removal saves.
   pub savings-chain : {P : List ℕ} {τ : List Removal} → Series P τ → AllFit k F W τ
-      → (L : List ℕ) × Chain L × Serves k F W L P × (savings τ + length L ≤ sumOf (gain k F W) P)
+      → (L : List ℕ) × Chain L × KnowsSmall k F W L P × (savings τ + length L ≤ sumOf (gain k F W) P)
   savings-chain s f = let r = series-serves s f in (r .chain, r .longer .chain, r .serves, omega (arith, r .pays, r .longer .by))
 
   -- S3: a series that starts with a removal of size k saves at most what the pieces can save less c k, for every lower bound c of

@@ -1,18 +1,19 @@
 -- Steps: the forms by which code makes one (`step-of`, `step-remove`), what every step keeps, and that no series saves more than the
 -- sum of the pieces' sizes less one each. Assumes nothing.
-use mathlib.Core.Path.{_≡_, refl, sym, ap, ap₂}
+use mathlib.Core.Path.{_≡_, refl, sym, ap, ap₂, _∙_}
 use mathlib.Core.Logic.{_⊎_, inl, inr, ⊎-elim}
 use mathlib.Core.List.{List, [], _∷_, _++_, map, List·Memᴰ, List·Memᴰ·cases-cons, List·Memᴰ·not-nil, List·Memᴰ·head, List·Memᴰ·tail, List·Memᴰ·append-cases, List·Permᴰ, List·Permᴰ·nil, List·Permᴰ·cons, List·Permᴰ·swap, List·Permᴰ·trans, Permᴰ·symm, Permᴰ·refl, Permᴰ·append-left, Permᴰ·middle, flatten}
 use Prim.Native.Nat.{ℕ, _+_, _-_, _≤_, _<_}
 use native.Mathlib.Omega.{arith}
 use lib.Bits.{bitOr}
 use Rattle.bitset.specs.Bits.{Sub, Disjoint, diff, size}
-use Rattle.bitset.proofs.Laws.{size-minus, sub-trans}
-use Rattle.bitset.proofs.Decide.{sets, v, less, or, none, is, sub, apart}
+use Rattle.bitset.proofs.Laws.{size-minus, sub-trans, unions-one, unions-of, unions-none, unions-more}
+use Rattle.bitset.proofs.Members.{sub-of, apart-of, apart-out}
+use Rattle.bitset.proofs.Decide.{sets, v, less, or, is, sub, apart}
 use Rattle.molecule.specs.Connected.{Apart}
 use Rattle.bounds.specs.Numbers.{sumOf}
-use Rattle.bounds.specs.Removals.{big, Split, Splits, Inside, Within, whole, Removal, Step, Series, savings}
-use Rattle.bounds.specs.Removals.Series.{done, next}
+use Rattle.bounds.specs.Inner.Removals.{big, Split, Splits, Inside, PiecesWithin, whole, Removal, Step, Series, savings}
+use Rattle.bounds.specs.Inner.Removals.Series.{done, next}
 use Rattle.bounds.proofs.Numbers.{sum-append, sum-perm}
 use Rattle.bounds.proofs.Savings.{mem-perm, big-cases, mem-big, split-size, split-mem}
 
@@ -151,7 +152,7 @@ module _ {P Q : List ℕ} {m : Removal} (st : Step P m Q) where
       ⊎-elim (λ e. let w = step-first in (w .0, w .1, rw e (w .2))) (λ t. rest-inside q (mem-big (st .rest) q t)) (List·Memᴰ·cases-cons (mem-perm (st .left) i))
 
   -- and so in all that the pieces lie in
-  pub step-within : (U : ℕ) → Within U P → Within U Q
+  pub step-within : (U : ℕ) → PiecesWithin U P → PiecesWithin U Q
   step-within U h q i = let w = step-inside q i in sub-trans q (w .0) U (w .2) (h (w .0) (w .1))
 
   -- no single bond is left
@@ -222,42 +223,35 @@ step-apart {P} st a =
 -- ---- a split by its parts: none empty, no two with a bond in common, and their union
 
 -- each piece lies in the union of all
-pub whole-within : (P : List ℕ) → Within (whole P) P
-unfolding whole
-whole-within [] q i = absurd (List·Memᴰ·not-nil i)
-whole-within (p ∷ P) q i =
-    ⊎-elim (λ e. rw e (sets [] (sub (v 0) (or (v 0) (v 1))) (p ∷ whole P ∷ []) tt))
-    (λ t. sub-trans q (whole P) (bitOr p (whole P)) (whole-within P q t) (sets [] (sub (v 1) (or (v 0) (v 1))) (p ∷ whole P ∷ []) tt))
-    (List·Memᴰ·cases-cons i)
+pub whole-within : (P : List ℕ) → PiecesWithin (whole P) P
+whole-within P q i = sub-of q (whole P) (λ b h. unions-one (λ p. p) P q b i h)
 
 -- apart from each is apart from the union
 apart-whole : (a : ℕ) (l : List ℕ) → ((q : ℕ) → List·Memᴰ q l → Disjoint a q) → Disjoint a (whole l)
-unfolding whole
-apart-whole a [] d = sets [] (apart (v 0) none) (a ∷ []) tt
-apart-whole a (b ∷ l) d =
-    sets (apart (v 0) (v 1) ∷ apart (v 0) (v 2) ∷ []) (apart (v 0) (or (v 1) (v 2))) (a ∷ b ∷ whole l ∷ []) tt (d b (List·Memᴰ·head refl)) (apart-whole a l (λ q i. d q (List·Memᴰ·tail i)))
+apart-whole a l d = apart-of a (whole l) (λ i h k. let w = unions-of (λ p. p) l i k in apart-out a (w .0) i (d (w .0) (w .1)) h (w .2))
 
 -- sets that are not empty, no two with a bond in common, are parts of their union
 pub split-of : (l : List ℕ) (s : ℕ) → ((a : ℕ) → List·Memᴰ a l → 0 < size a) → Apart l → whole l ≡ s → Split s l
-unfolding whole
-split-of [] s o d e = sym e
-split-of (a ∷ l) s o d e = (
-  o a (List·Memᴰ·head refl),
-  rw (← e) (sets [] (sub (v 0) (or (v 0) (v 1))) (a ∷ whole l ∷ []) tt),
-  split-of l (diff s a) (λ b i. o b (List·Memᴰ·tail i)) (d .1)
-      (rw (← e) (sets (apart (v 0) (v 1) ∷ []) (is (v 1) (less (or (v 0) (v 1)) (v 0))) (a ∷ whole l ∷ []) tt (apart-whole a l (d .0)))),
-)
+split-of [] s o d e = sym e ∙ unions-none (λ p. p)
+split-of (a ∷ l) s o d e =
+    let f : bitOr a (whole l) ≡ s = sym (unions-more (λ p. p) a l) ∙ e in (
+      o a (List·Memᴰ·head refl),
+      rw (← f) (sets [] (sub (v 0) (or (v 0) (v 1))) (a ∷ whole l ∷ []) tt),
+      split-of l (diff s a) (λ b i. o b (List·Memᴰ·tail i)) (d .1)
+          (rw (← f) (sets (apart (v 0) (v 1) ∷ []) (is (v 1) (less (or (v 0) (v 1)) (v 0))) (a ∷ whole l ∷ []) tt (apart-whole a l (d .0)))),
+    )
 
 -- and parts of s have the union s
 pub split-whole : (l : List ℕ) (s : ℕ) → Split s l → whole l ≡ s
-unfolding whole
-split-whole [] s h = sym h
-split-whole (a ∷ l) s h = rw (split-whole l (diff s a) (h .2)) (sets (sub (v 0) (v 1) ∷ []) (is (or (v 0) (less (v 1) (v 0))) (v 1)) (a ∷ s ∷ []) tt (h .1))
+split-whole [] s h = unions-none (λ p. p) ∙ sym h
+split-whole (a ∷ l) s h =
+    unions-more (λ p. p) a l
+    ∙ rw (split-whole l (diff s a) (h .2)) (sets (sub (v 0) (v 1) ∷ []) (is (or (v 0) (less (v 1) (v 0))) (v 1)) (a ∷ s ∷ []) tt (h .1))
 
 -- ---- what is saved is never more than the pieces' sizes less one each
 
 -- the parts of p have size less one, summed, at most that of p: each part but one takes one more off
-less-split : (l : List ℕ) (p : ℕ) → Split p l → sumOf (λ (a : ℕ). size a - 1) l ≤ size p - 1
+pub less-split : (l : List ℕ) (p : ℕ) → Split p l → sumOf (λ (a : ℕ). size a - 1) l ≤ size p - 1
 less-split [] p h = omega arith
 less-split (a ∷ l) p h = omega (arith, less-split l (diff p a) (h .2), size-minus p a (h .1), h .0)
 

@@ -1,6 +1,5 @@
--- Document 01, 'Search': the two bounds as definitions that compute; chains; and what a series of removals saves, without graphs.
+-- Document 01, 'Search': the two bounds as definitions that compute; and addition chains, whose lower bounds serve as their cost.
 pub mod Numbers
 pub mod Bounds
-pub mod Saving
 pub mod Chain
-pub mod Removals
+pub mod Inner

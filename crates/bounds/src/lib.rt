@@ -138,7 +138,8 @@ pub fn usable_edges_bound(w: u64, f: u64, pieces: &[u64], k: u32) -> u32
 
 // The first size from 2 to largest that is not left out, and the next after these where all are: masks[k] has the bonds in removable size-k matches.
 pub fn least_size(masks: &[u64], pieces: &[u64], index: u32, best: u32, largest: u32) -> u32
-    requires { ⌜ (largest < length (now masks)) × (length (now pieces) ≤ 32) × (best ≤ 4096) × (largest ≤ 64) × ((k : ℕ) → 2 ≤ k → k ≤ largest → Sub (getD (now masks) k 0) (getD (now masks) 2 0)) ⌝ }
+    requires { ⌜ (largest < length (now masks)) × (length (now pieces) ≤ 32) × (best ≤ 4096) × (largest ≤ 64) × ((k : ℕ) → 2 ≤ k → k ≤ largest
+        → Sub (getD (now masks) k 0) (getD (now masks) 2 0)) ⌝ }
     ensures { λ r. ⌜ r ≡ leastSize ceilLog2 (λ k. getD (now (masks .entry)) k 0) (now (pieces .entry)) index best largest ⌝ }
 {
     let mut k = 2;

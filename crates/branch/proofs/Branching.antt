@@ -1,7 +1,7 @@
 -- What a state's removals are tried from, the next to try, and the state after it. Of an accepted record, with its own matches where a state is entered.
 use mathlib.Core.Path.{_≡_, refl, sym, ap, subst, _∙_}
 use mathlib.Core.Logic.{_⊎_, inl, inr}
-use mathlib.Core.Bool.{Bool, true, false, not, _||_}
+use mathlib.Core.Bool.{Bool, true, false, _||_}
 use mathlib.Core.List.{List, [], _∷_, _++_, flatMap, List·Memᴰ as Mem, List·Memᴰ·head as m-head, List·Memᴰ·tail as m-tail, List·Memᴰ·cases-cons as mem-cons, List·Memᴰ·not-nil as not-nil, List·Memᴰ·append-cases as mem-cases, List·Memᴰ·eq-of-singleton as mem-one}
 use Prim.Native.Nat.{ℕ, zero, suc, _+_, _-_, _*_, _^_, _≤_, _<_}
 use native.Mathlib.Omega.{arith}
@@ -14,35 +14,36 @@ use lib.Seq.{length-take-le, take-at}
 use borrow.Author.Tests.{le-leb, lt-leb}
 use Rattle.bitset.specs.Bits.{Sub, size, diff, unions}
 use Rattle.bitset.proofs.Bools.{two, and-true}
-use Rattle.bitset.proofs.Laws.{size-mono, size-diff, size-disjoint, size-first}
+use Rattle.bitset.proofs.Laws.{size-mono, size-diff, size-disjoint}
 use Rattle.bitset.proofs.Decide.{sets, v, and, or, sub}
-use Rattle.molecule.specs.Lists.{Bytes, filter, firstFrom}
-use Rattle.molecule.specs.Record.{bonds, allBonds}
+use Rattle.molecule.specs.Lists.{Bytes, filter}
+use Rattle.molecule.specs.Record.{allBonds}
 use Rattle.molecule.specs.Touch.{touchingWords}
 use Rattle.molecule.specs.Check.{check, accepted}
 use Rattle.molecule.specs.Connected.{Own, Connected}
-use Rattle.molecule.proofs.Components.{own-all, all-own}
+use Rattle.molecule.proofs.Components.{all-own}
 use Rattle.bounds.specs.Numbers.{sumOf, maxOf, ceilLog2}
-use Rattle.bounds.specs.Bounds.{leftOut, leastSize}
-use Rattle.bounds.specs.Removals.{Within}
-use Rattle.bounds.proofs.Numbers.{mem-sum}
+use Rattle.bounds.specs.Bounds.{leastSize}
+use Rattle.bounds.specs.Inner.Removals.{PiecesWithin}
+use Rattle.bounds.proofs.Numbers.{mem-sum, max-le}
+use Rattle.bounds.proofs.Bounds.{least-same}
 use Rattle.matches.specs.Table.{Pair, pair, sizeOf, pairs}
-use Rattle.matches.specs.Laws.{Twins, Laws}
-use Rattle.matches.proofs.Laws.{table-laws}
+use Rattle.matches.specs.Laws.{Laws}
+use Rattle.matches.proofs.Laws.{table-laws, sizeOf-first, sizeOf-second, sizeOf-two, sizeOf-half}
 use Rattle.search.specs.Setting.{Setting, hasMatchableEdges}
 use Rattle.search.specs.State.{State, inside, struck, bigComponents, removable, maskOf, keep, remove, child}
 use Rattle.search.specs.Search.{tried}
-use Rattle.search.specs.Claims.{Removable, Fine, heldOf}
+use Rattle.search.specs.Inner.Claims.{Removable, Fine, heldOf}
 use Rattle.search.proofs.Lists.{inside-true, refines-within, flat-mem}
 use Rattle.search.proofs.Parts.{few, big-is}
 use Rattle.search.proofs.Refine.{diff-within, and-within, first-struck, removable-mem, keep-refines, letting-go, mask-within}
-use Rattle.search.proofs.Ends.{keep-size, child-fine, child-falls, child-two}
+use Rattle.search.proofs.Ends.{count-two, keep-size, child-fine, child-falls, child-two}
 use Rattle.state.specs.declared.State as code
-use Rattle.state.specs.Views.{stateOf}
-use Rattle.state.specs.Pieces.{bondsOf, bondsLeft, Big, Owned, Held, Chosen}
-use Rattle.state.specs.Scan.{Owners, Scanning, Told, goes}
-use Rattle.branch.specs.Entered.{Searched, Entered}
-use Rattle.branch.specs.Branching.{leastTried, Passes, triedFrom, Turn, Chooses, Below}
+use Rattle.state.specs.Inner.Views.{stateOf}
+use Rattle.state.specs.Inner.Pieces.{bondsIn, bondsLeft, Big, Owned, OwnedFragments, Chosen}
+use Rattle.state.specs.Inner.Scan.{Owners, Scanning, Told, goes}
+use Rattle.branch.specs.Inner.Entered.{Searched, Entered}
+use Rattle.branch.specs.Inner.Branching.{leastTried, Passes, triedFrom, Turn, Chooses, Below}
 use Rattle.state.proofs.Scanning.{inside-whole, removable-in, removable-out, removable-end, told-out}
 
 -- ---- lists
@@ -59,51 +60,23 @@ filter-none : (p : ℕ → Bool) (l : List ℕ) → ((m : ℕ) → Mem m l → p
 filter-none p [] h = refl
 filter-none p (x ∷ l) h = rw (h x (m-head refl)) (filter-none p l (λ m i. h m (m-tail i)))
 
--- pieces of two bonds or more are at most half as many as their bonds
-halves : (P : List ℕ) → Big P → 2 * length P ≤ sumOf size P
-halves [] h = omega arith
-halves (p ∷ P) h = omega (arith, h p (m-head refl), halves P (λ q i. h q (m-tail i)))
-
 -- without the bonds gone no piece grows, and a piece that has two of them loses them
-left-le : (P : List ℕ) (gone : ℕ) → bondsLeft gone P ≤ bondsOf P
+left-le : (P : List ℕ) (gone : ℕ) → bondsLeft gone P ≤ bondsIn P
 left-le [] gone = omega arith
 left-le (q ∷ P) gone = omega (arith, left-le P gone, size-diff q gone)
 
-left-less : (P : List ℕ) (gone h p : ℕ) → Mem p P → Sub h p → Sub h gone → 2 ≤ size h → bondsLeft gone P + 2 ≤ bondsOf P
+left-less : (P : List ℕ) (gone h p : ℕ) → Mem p P → Sub h p → Sub h gone → 2 ≤ size h → bondsLeft gone P + 2 ≤ bondsIn P
 left-less [] gone h p i a b t = absurd (not-nil i)
 left-less (q ∷ P) gone h p i a b t = go (mem-cons i) (left-less P gone h p)
   where
     both : Sub h q → size h ≤ size (bitAnd q gone)
     both s = size-mono h (bitAnd q gone) (sets (sub (v 0) (v 1) ∷ sub (v 0) (v 2) ∷ []) (sub (v 0) (and (v 1) (v 2))) (h ∷ q ∷ gone ∷ []) tt s b)
 
-    go : (p ≡ q) ⊎ Mem p P → (Mem p P → Sub h p → Sub h gone → 2 ≤ size h → bondsLeft gone P + 2 ≤ bondsOf P) → bondsLeft gone (q ∷ P) + 2 ≤ bondsOf (q ∷ P)
+    go : (p ≡ q) ⊎ Mem p P → (Mem p P → Sub h p → Sub h gone → 2 ≤ size h → bondsLeft gone P + 2 ≤ bondsIn P) → bondsLeft gone (q ∷ P) + 2 ≤ bondsIn (q ∷ P)
     go (inl e) ih = omega (arith, left-le P gone, size-diff q gone, both (rw e at a))
     go (inr j) ih = omega (arith, ih j a b t, size-diff q gone)
 
 -- ---- the least size tried
-
-first-same : (p q : ℕ → Bool) (k n : ℕ) → ((j : ℕ) → k ≤ j → j < k + n → p j ≡ q j) → firstFrom p k n ≡ firstFrom q k n
-unfolding firstFrom
-first-same p q k zero h = refl
-first-same p q k (suc n) h = go (two (q k)) (first-same p q (suc k) n (λ j a b. h j (omega arith) (omega arith)))
-  where
-    here : p k ≡ q k
-    here = h k (omega arith) (omega arith)
-
-    go : (q k ≡ true) ⊎ (q k ≡ false) → firstFrom p (suc k) n ≡ firstFrom q (suc k) n → firstFrom p k (suc n) ≡ firstFrom q k (suc n)
-    go (inl e) ih = rw (here, e, firstFrom)
-    go (inr e) ih = rw (here, e, firstFrom) ih
-
-left-same : (f g : ℕ → ℕ) (pieces : List ℕ) (index best k : ℕ) → f 2 ≡ g 2 → f k ≡ g k → leftOut ceilLog2 f pieces index best k ≡ leftOut ceilLog2 g pieces index best k
-unfolding leftOut
-left-same f g pieces index best k e q = rw (e, q)
-
--- masks that agree from 2 to the largest size give one least size
-least-same : (f g : ℕ → ℕ) (pieces : List ℕ) (index best largest : ℕ) → f 2 ≡ g 2 → ((k : ℕ) → 2 ≤ k → k ≤ largest → f k ≡ g k) → leastSize ceilLog2 f pieces index best largest ≡ leastSize ceilLog2 g pieces index best largest
-unfolding leastSize
-least-same f g pieces index best largest e h =
-    first-same (λ k. not (leftOut ceilLog2 f pieces index best k)) (λ k. not (leftOut ceilLog2 g pieces index best k)) 2 (largest - 1)
-    (λ j a b. ap not (left-same f g pieces index best j e (h j a (omega arith))))
 
 module _ (bounds : ℕ) (mask : ℕ → ℕ) (pieces : List ℕ) (index best largest : ℕ) where
   pub least-on : (eqb bounds 2 || eqb bounds 3) ≡ true → leastTried bounds mask pieces index best largest ≡ leastSize ceilLog2 mask pieces index best largest
@@ -119,7 +92,7 @@ least-masks : (bounds : ℕ) (f g : ℕ → ℕ) (pieces : List ℕ) (index best
 least-masks bounds f g pieces index best largest e h = go (two (eqb bounds 2 || eqb bounds 3))
   where
     go : ((eqb bounds 2 || eqb bounds 3) ≡ true) ⊎ ((eqb bounds 2 || eqb bounds 3) ≡ false) → leastTried bounds f pieces index best largest ≡ leastTried bounds g pieces index best largest
-    go (inl t) = least-on bounds f pieces index best largest t ∙ least-same f g pieces index best largest e h ∙ sym (least-on bounds g pieces index best largest t)
+    go (inl t) = least-on bounds f pieces index best largest t ∙ least-same ceilLog2 f g pieces index best largest e h ∙ sym (least-on bounds g pieces index best largest t)
     go (inr t) = least-off bounds f pieces index best largest t ∙ sym (least-off bounds g pieces index best largest t)
 
 module _ (r : Bytes) (ms : List Pair) (setting : Setting) (room : ℕ) (s : State) (ns : List ℕ) (best : ℕ) where
@@ -168,7 +141,6 @@ module _ (r : Bytes) (ms : List Pair) (M : Laws r ms) (pieces : List ℕ) (least
 module _ (r : Bytes) (ms : List Pair) (M : Laws r ms) (pieces : List ℕ) where
   -- both fragments are among the bonds of all pieces, and apart
   pub too-large : (i : ℕ) → i < length ms → size (unions (λ p. p) pieces) < 2 * sizeOf ms i → goes ms pieces i ≡ false
-  unfolding sizeOf
   too-large i h l = go (two (goes ms pieces i))
     where
       x : ℕ
@@ -185,7 +157,7 @@ module _ (r : Bytes) (ms : List Pair) (M : Laws r ms) (pieces : List ℕ) where
       go (inl e) =
           let b = and-true (inside pieces x) (inside pieces y) e in
           let s : Sub (bitOr x y) u = sets (sub (v 0) (v 2) ∷ sub (v 1) (v 2) ∷ []) (sub (or (v 0) (v 1)) (v 2)) (x ∷ y ∷ u ∷ []) tt (inside-whole pieces x (b .0)) (inside-whole pieces y (b .1)) in
-          absurd (omega (arith, size-mono (bitOr x y) u s, size-disjoint x y (M .twins i h .apart), M .twins i h .same-size))
+          absurd (omega (arith, size-mono (bitOr x y) u s, size-disjoint x y (M .twins i h .apart), sizeOf-first ms i, sizeOf-second r ms M i h))
 
 -- what is told from a match on is told from an earlier one, where none between is removable
 pub told-earlier : (ms : List Pair) (pieces : List ℕ) (from n start largest : ℕ) (masks : List ℕ) → Passes ms pieces from n → Told ms pieces n masks largest start → Told ms pieces from masks largest start
@@ -202,19 +174,12 @@ told-earlier ms pieces from n start largest masks P T =
 -- ---- what a scan is given
 
 module _ (r : Bytes) (ok : check r ≡ accepted) where
-  -- two twins have at most 32 bonds each
-  half : (x y : ℕ) → Twins r x y → size x ≤ 32
-  half x y t =
-      let s : Sub (bitOr x y) (allBonds r) = sets (sub (v 0) (v 2) ∷ sub (v 1) (v 2) ∷ []) (sub (or (v 0) (v 1)) (v 2)) (x ∷ y ∷ allBonds r ∷ []) tt (own-all r x (t .one-own)) (own-all r y (t .other-own)) in
-      omega (arith, size-mono (bitOr x y) (allBonds r) s, size-first (bonds r), size-disjoint x y (t .apart), t .same-size, few r ok)
+  -- sizes are from 2 to 32
+  size-least : (m : ℕ) → m < length (pairs r) → 2 ≤ sizeOf (pairs r) m
+  size-least m h = sizeOf-two r (pairs r) (table-laws r ok) m h
 
-  pub size-two : (m : ℕ) → m < length (pairs r) → 2 ≤ sizeOf (pairs r) m
-  unfolding sizeOf
-  size-two m h = table-laws r ok .twins m h .big
-
-  pub size-half : (m : ℕ) → m < length (pairs r) → sizeOf (pairs r) m ≤ 32
-  unfolding sizeOf
-  size-half m h = half (pair (pairs r) m .h1) (pair (pairs r) m .h2) (table-laws r ok .twins m h)
+  size-most : (m : ℕ) → m < length (pairs r) → sizeOf (pairs r) m ≤ 32
+  size-most m h = omega (arith, sizeOf-half r (pairs r) (table-laws r ok) m h, few r ok)
 
 pub scanning-of : (r : Bytes) (at touch words : List ℕ) (matches : ℕ) → Searched r at touch words matches → (pieces own : List ℕ) (all : ℕ) → Owners pieces own → all ≡ unions (λ p. p) pieces → Scanning words (pairs r) pieces own all
 scanning-of r at touch words matches S pieces own all o w = record {
@@ -222,7 +187,7 @@ scanning-of r at touch words matches S pieces own all o w = record {
   room = omega (arith, S .room, S .count);
   first = λ m h. table-laws r (S .ok) .twins m h .one .some;
   second = λ m h. table-laws r (S .ok) .twins m h .other .some;
-  most = λ m h. size-half r (S .ok) m h;
+  most = λ m h. size-most r (S .ok) m h;
   owners = o;
   whole = w;
 }
@@ -248,13 +213,13 @@ module _ (r : Bytes) (ok : check r ≡ accepted) (s : State) (F : Fine r (pairs 
       let q = big-is r ok (bitAnd (w .0) U) (and-within (w .0) U (allBonds r) (F .inv .within (w .0) (w .1))) c (w .2) in
       (q .0, q .2)
 
-  held-within : Within (allBonds r) (heldOf r (pairs r) s)
+  held-within : PiecesWithin (allBonds r) (heldOf r (pairs r) s)
   held-within = refines-within (allBonds r) (keep-refines r ok (pairs r) (maskOf r (pairs r) (removable r (pairs r) (s .pieces) (s .next)) 2) (s .pieces) (F .inv .within)) (F .inv .within)
 
   pub held-big : Big (heldOf r (pairs r) s)
   held-big c i = held-part c i .1
 
-  pub held-held : (touch : List ℕ) → touch ≡ touchingWords r → Held r touch (heldOf r (pairs r) s)
+  pub held-held : (touch : List ℕ) → touch ≡ touchingWords r → OwnedFragments r touch (heldOf r (pairs r) s)
   held-held touch e = record {
     owned = record { few = few r ok; words = e; own = λ p i. all-own r p (held-within p i) };
     connected = λ p i. held-part p i .0;
@@ -274,10 +239,9 @@ module _ (r : Bytes) (ok : check r ≡ accepted) (s : State) (F : Fine r (pairs 
 
     -- and its size less one from the index
     pub index-left : sizeOf (pairs r) m - 1 ≤ s .index
-    unfolding sizeOf
     index-left =
         let i = k .in1 in
-        omega (arith, size-mono (pair (pairs r) m .h1) (i .0) (i .2), mem-sum (λ (p : ℕ). size p - 1) (s .pieces) (i .0) (i .1), F .covered)
+        omega (arith, sizeOf-first (pairs r) m, size-mono (pair (pairs r) m .h1) (i .0) (i .2), mem-sum (λ (p : ℕ). size p - 1) (s .pieces) (i .0) (i .1), F .covered)
 
     pub removals-left : length (s .removals) < 32
     removals-left = let c = child-falls r ok (pairs r) (table-laws r ok) s m (F .inv) k in omega (arith, c .0, c .1, F .weight, few r ok)
@@ -309,7 +273,7 @@ module _ (r : Bytes) (ok : check r ≡ accepted) (s : State) (F : Fine r (pairs 
           connected = subst (λ (x : State). (q : ℕ) → Mem q (x .pieces) → Connected r q) (sym e) child-part;
           pieces = p;
           removals = q;
-          both = subst (λ (x : State). length (x .pieces) + length (x .removals) ≤ 32) (sym e) (omega (arith, f .weight, few r ok, halves (child r (pairs r) s (heldOf r (pairs r) s) m .pieces) (child-two r ok (pairs r) M s m (F .inv) k)));
+          both = subst (λ (x : State). length (x .pieces) + length (x .removals) ≤ 32) (sym e) (omega (arith, f .weight, few r ok, count-two (child r (pairs r) s (heldOf r (pairs r) s) m .pieces) (child-two r ok (pairs r) M s m (F .inv) k)));
           after = omega (arith, ap (λ (x : State). x .next) e, next-is, k .is);
         }
 
@@ -329,7 +293,7 @@ module _ (r : Bytes) (at touch words : List ℕ) (matches : ℕ) (S : Searched r
   word-place k h = omega (arith, S .room, S .count, C .within)
 
   pub word-size : getD words (4 * m + 3) 0 ≤ 32
-  word-size = omega (arith, S .recorded .sized m (C .within), size-half r (S .ok) m (C .within))
+  word-size = omega (arith, S .recorded .sized m (C .within), size-most r (S .ok) m (C .within))
 
   pub below-asks : s .removed ≤ length (s .removals)
       → Big held × (bondsLeft (getD words (4 * m + 2) 0) held + 2 ≤ 64) × (m < 2 ^ 32) × (1 ≤ getD words (4 * m + 3) 0) × (getD words (4 * m + 3) 0 - 1 ≤ s .index) × (s .removed < 32)
@@ -338,16 +302,16 @@ module _ (r : Bytes) (at touch words : List ℕ) (matches : ℕ) (S : Searched r
         rw (C .keeps) (held-big r (S .ok) (stateOf s) (E .fine)),
         rw (C .keeps, struck-is) (held-left r (S .ok) (stateOf s) (E .fine) m (chosen r s held m C)),
         omega (arith, S .few, S .count, C .within),
-        omega (arith, z, size-two r (S .ok) m (C .within)),
+        omega (arith, z, size-least r (S .ok) m (C .within)),
         omega (arith, z, index-left r (S .ok) (stateOf s) (E .fine) m (chosen r s held m C)),
         omega (arith, removals-left r (S .ok) (stateOf s) (E .fine) m (chosen r s held m C), length-take-le (s .removed) (s .removals) l),
       )
 
   pub below-is : (c : code.State)
-      → ((bytes : Bytes) (ms : List Pair) → Held bytes touch held → Chosen ms m (getD words (4 * m) 0) (getD words (4 * m + 2) 0) → sizeOf ms m ≡ getD words (4 * m + 3) 0 → stateOf c ≡ child bytes ms (stateOf s) held m)
+      → ((bytes : Bytes) (ms : List Pair) → OwnedFragments bytes touch held → Chosen ms m (getD words (4 * m) 0) (getD words (4 * m + 2) 0) → sizeOf ms m ≡ getD words (4 * m + 3) 0 → stateOf c ≡ child bytes ms (stateOf s) held m)
       → (c .count ≤ 32) × (c .removed ≡ s .removed + 1) × (c .removed ≤ 32) → Below r s m c
   below-is c f n =
-      let h : Held r touch held = rw (C .keeps) (held-held r (S .ok) (stateOf s) (E .fine) touch (S .touches)) in
+      let h : OwnedFragments r touch held = rw (C .keeps) (held-held r (S .ok) (stateOf s) (E .fine) touch (S .touches)) in
       let e = f r (pairs r) h (record { first = sym (S .recorded .one m (C .within)); both = sym struck-is }) (sym (S .recorded .sized m (C .within))) in
       let q : stateOf c ≡ child r (pairs r) (stateOf s) (heldOf r (pairs r) (stateOf s)) m = rw (C .keeps) at e in
       record { is = q; entered = child-entered r (S .ok) (stateOf s) (E .fine) m (chosen r s held m C) c q (n .0) (n .2) }
@@ -365,12 +329,8 @@ module _ (r : Bytes) (at touch words : List ℕ) (matches : ℕ) (S : Searched r
   abbrev ns : List ℕ
   ns = removable r (pairs r) (stateOf s .pieces) (s .next)
 
-  max-le : (f : ℕ → ℕ) (l : List ℕ) (k : ℕ) → ((m : ℕ) → Mem m l → f m ≤ k) → maxOf f l ≤ k
-  max-le f [] k h = omega arith
-  max-le f (x ∷ l) k h = omega (arith, h x (m-head refl), max-le f l k (λ m i. h m (m-tail i)))
-
   pub told-few : largest ≤ 32
-  told-few = omega (arith, T .largest r, max-le (sizeOf (pairs r)) ns 32 (λ m i. size-half r (S .ok) m (removable-mem r (pairs r) (stateOf s .pieces) (s .next) m i .is)))
+  told-few = omega (arith, T .largest r, max-le (sizeOf (pairs r)) ns 32 (λ m i. size-most r (S .ok) m (removable-mem r (pairs r) (stateOf s .pieces) (s .next) m i .is)))
 
   pub told-within : (k : ℕ) → 2 ≤ k → k ≤ largest → Sub (getD masks k 0) (getD masks 2 0)
   told-within k a b = rw (T .masked r k (omega (arith, told-few)), T .masked r 2 (omega arith)) (mask-within r (S .ok) (pairs r) (table-laws r (S .ok)) (stateOf s .pieces) (s .next) k)
@@ -381,7 +341,7 @@ module _ (r : Bytes) (at touch words : List ℕ) (matches : ℕ) (S : Searched r
   told-tries bounds best least e setting room q =
       let f = least-masks bounds (λ k. getD masks k 0) (maskOf r (pairs r) ns) (stateOf s .pieces) (s .index) best largest (T .masked r 2 (omega arith)) (λ k a b. T .masked r k (omega (arith, told-few))) in
       let g : least ≡ leastTried (setting .bounds) (maskOf r (pairs r) ns) (stateOf s .pieces) (s .index) best (maxOf (sizeOf (pairs r)) ns) = rw (q, ← T .largest r) (e ∙ f) in
-      tried-is r (pairs r) setting room (stateOf s) ns best least g (λ m i. size-two r (S .ok) m (removable-mem r (pairs r) (stateOf s .pieces) (s .next) m i .is))
+      tried-is r (pairs r) setting room (stateOf s) ns best least g (λ m i. size-least r (S .ok) m (removable-mem r (pairs r) (stateOf s .pieces) (s .next) m i .is))
       ∙ ap (filter (λ m. leb least (sizeOf (pairs r) m))) (sym (T .same r))
 
   owned : Owned r touch (stateOf s .pieces)

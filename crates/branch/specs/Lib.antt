@@ -1,3 +1,2 @@
--- What the removals of a state are tried from, the next to try, and the state after it.
-pub mod Entered
-pub mod Branching
+-- The definitions that branches are held to are those of search; what stands here is for inner contracts and proofs.
+pub mod Inner

@@ -9,14 +9,15 @@ ghost use Rattle.bitset.specs.Bits.{Sub};
 ghost use Rattle.molecule.specs.Lists.{Bytes};
 ghost use Rattle.matches.specs.Table.{Pair};
 ghost use Rattle.matches.specs.Laws.{Laws};
-ghost use Rattle.state.specs.Scan.{Scanning, Told};
-ghost use Rattle.branch.specs.Entered.{Searched, Entered};
-ghost use Rattle.branch.specs.Branching.{leastTried, Passes, Branched, Next, Chooses, Below};
+ghost use Rattle.state.specs.Inner.Scan.{Scanning, Told};
+ghost use Rattle.branch.specs.Inner.Entered.{Searched, Entered};
+ghost use Rattle.branch.specs.Inner.Branching.{leastTried, Passes, Branched, Next, Chooses, Below};
 use state::State;
 use state::scan;
 use state::scan::Scanned;
 
-// What the removals of a state are tried from: for each bond the piece that has it, and all bonds in pieces; the pieces held, so many; the least size tried; the number of the first removable match.
+// What the removals of a state are tried from: for each bond the piece that has it, and all bonds in pieces; the pieces held, so many; the least
+// size tried; the number of the first removable match.
 pub struct Branch {
     pub own: [u64; 64],
     pub all: u64,
@@ -45,7 +46,8 @@ fn least_tried(
     best: u32,
     largest: u32,
 ) -> u64
-    requires { ⌜ (largest < length (now masks)) × (length (now pieces) ≤ 32) × (best ≤ 64) × (largest ≤ 64) × ((k : ℕ) → 2 ≤ k → k ≤ largest → Sub (getD (now masks) k 0) (getD (now masks) 2 0)) ⌝ }
+    requires { ⌜ (largest < length (now masks)) × (length (now pieces) ≤ 32) × (best ≤ 64) × (largest ≤ 64) × ((k : ℕ) → 2 ≤ k → k ≤ largest
+        → Sub (getD (now masks) k 0) (getD (now masks) 2 0)) ⌝ }
     ensures { λ r. ⌜ r ≡ leastTried bounds (λ k. getD (now (masks .entry)) k 0) (now (pieces .entry)) index best largest ⌝ }
 {
     if !has(bounds, 2) {
@@ -54,10 +56,12 @@ fn least_tried(
     bounds::least_size(masks, pieces, index, best, largest) as u64
 }
 
-// The first match from a number on that is not too large for the pieces, whose union is all; the number of the matches where there is none. Along the table sizes never grow.
+// The first match from a number on that is not too large for the pieces, whose union is all; the number of the matches where there is none. Along
+// the table sizes never grow.
 fn first_fitting(pairs: &[u64], from: usize, matches: usize, all: u64) -> usize
     requires { ⌜ (from ≤ matches) × ((ms : List Pair) × (pieces : List ℕ) × (own : List ℕ) × Scanning (now pairs) ms pieces own all × (matches ≡ length ms)) ⌝ }
-    ensures { λ r. ⌜ ((bytes : Bytes) (ms : List Pair) (pieces own : List ℕ) → Laws bytes ms → Scanning (now (pairs .entry)) ms pieces own all → matches ≡ length ms → Passes ms pieces from r) ⌝ }
+    ensures { λ r. ⌜ ((bytes : Bytes) (ms : List Pair) (pieces own : List ℕ) → Laws bytes ms → Scanning (now (pairs .entry)) ms pieces own all
+        → matches ≡ length ms → Passes ms pieces from r) ⌝ }
 {
     let bonds = bitset::size(all) as u64;
     let mut low = from;
@@ -82,9 +86,12 @@ fn masks(
     all: u64,
     masks: &mut [u64],
 ) -> Scanned
-    requires { ⌜ (length (now masks) ≡ 33) × (from ≤ matches) × ((bytes : Bytes) × (ms : List Pair) × (pieces : List ℕ) × Laws bytes ms × Scanning (now pairs) ms pieces (now own) all × (matches ≡ length ms)) ⌝ }
+    requires { ⌜ (length (now masks) ≡ 33) × (from ≤ matches) × ((bytes : Bytes) × (ms : List Pair) × (pieces : List ℕ) × Laws bytes ms
+        × Scanning (now pairs) ms pieces (now own) all × (matches ≡ length ms)) ⌝ }
     ensures long { λ r. ⌜ length (now (masks .exit)) ≡ 33 ⌝ }
-    ensures told { λ r. ⌜ ((bytes : Bytes) (ms : List Pair) (pieces : List ℕ) → Laws bytes ms → Scanning (now (pairs .entry)) ms pieces (now (own .entry)) all → matches ≡ length ms → Told ms pieces from (now (masks .exit)) (r .largest) (r .first)) ⌝ }
+    ensures told { λ r. ⌜ ((bytes : Bytes) (ms : List Pair) (pieces : List ℕ) → Laws bytes ms
+        → Scanning (now (pairs .entry)) ms pieces (now (own .entry)) all → matches ≡ length ms
+        → Told ms pieces from (now (masks .exit)) (r .largest) (r .first)) ⌝ }
 {
     let start = first_fitting(pairs, from, matches, all);
     scan::masks(pairs, start, matches, own, all, masks)
@@ -100,7 +107,8 @@ pub fn branch_of(
     best: u32,
 ) -> Branch
     requires { ⌜ (best ≤ 64) × ((bytes : Bytes) × (at : List ℕ) × Searched bytes at (now touch) (now pairs) matches × Entered bytes s) ⌝ }
-    ensures { λ r. ⌜ ((bytes : Bytes) (at : List ℕ) → Searched bytes at (now (touch .entry)) (now (pairs .entry)) matches → Entered bytes s → Branched bytes (now (pairs .entry)) bounds s best r) ⌝ }
+    ensures { λ r. ⌜ ((bytes : Bytes) (at : List ℕ) → Searched bytes at (now (touch .entry)) (now (pairs .entry)) matches → Entered bytes s
+        → Branched bytes (now (pairs .entry)) bounds s best r) ⌝ }
 {
     let pieces = s.pieces;
     let k = s.count;
@@ -129,7 +137,8 @@ pub fn branch_of(
     }
 }
 
-// The first match from a number on that is removable and of the least size or more; the number of the matches where there is none. Along the table sizes never grow.
+// The first match from a number on that is removable and of the least size or more; the number of the matches where there is none. Along the table
+// sizes never grow.
 pub fn next(
     pairs: &[u64],
     from: usize,
@@ -139,7 +148,8 @@ pub fn next(
     least: u64,
 ) -> usize
     requires { ⌜ (from ≤ matches) × ((ms : List Pair) × (pieces : List ℕ) × Scanning (now pairs) ms pieces (now own) all × (matches ≡ length ms)) ⌝ }
-    ensures { λ r. ⌜ ((bytes : Bytes) (ms : List Pair) (pieces : List ℕ) → Laws bytes ms → Scanning (now (pairs .entry)) ms pieces (now (own .entry)) all → matches ≡ length ms → Next bytes ms pieces least from r) ⌝ }
+    ensures { λ r. ⌜ ((bytes : Bytes) (ms : List Pair) (pieces : List ℕ) → Laws bytes ms
+        → Scanning (now (pairs .entry)) ms pieces (now (own .entry)) all → matches ≡ length ms → Next bytes ms pieces least from r) ⌝ }
 {
     let mut i = from;
     while i < matches {
@@ -156,8 +166,10 @@ pub fn next(
 
 // The state after match m is removed.
 pub fn below(touch: &[u64; 64], pairs: &[u64], s: State, held: &[u64], m: usize) -> State
-    requires { ⌜ ((bytes : Bytes) × (at : List ℕ) × (matches : ℕ) × Searched bytes at (now touch) (now pairs) matches × Entered bytes s × Chooses bytes s (now held) m) ⌝ }
-    ensures { λ r. ⌜ ((bytes : Bytes) (at : List ℕ) (matches : ℕ) → Searched bytes at (now (touch .entry)) (now (pairs .entry)) matches → Entered bytes s → Chooses bytes s (now (held .entry)) m → Below bytes s m r) ⌝ }
+    requires { ⌜ ((bytes : Bytes) × (at : List ℕ) × (matches : ℕ) × Searched bytes at (now touch) (now pairs) matches × Entered bytes s
+        × Chooses bytes s (now held) m) ⌝ }
+    ensures { λ r. ⌜ ((bytes : Bytes) (at : List ℕ) (matches : ℕ) → Searched bytes at (now (touch .entry)) (now (pairs .entry)) matches
+        → Entered bytes s → Chooses bytes s (now (held .entry)) m → Below bytes s m r) ⌝ }
 {
     state::child(
         touch,

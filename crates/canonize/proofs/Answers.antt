@@ -2,11 +2,10 @@
 use mathlib.Core.Path.{_≡_, ap, _∙_}
 use mathlib.Core.Bool.{true, false, not, _||_}
 use mathlib.Core.List.{_++_}
-use Prim.Native.Nat.{ℕ, _+_, _^_, _≤_, _<_}
-use native.Mathlib.Omega.{arith}
+use Prim.Native.Nat.{ℕ, _^_, _≤_, _<_}
 use native.Mathlib.Nat.{zero-add}
-use lib.ListN.{length, drop, replicate, length-replicate}
-use lib.Dec.{leb, eqb}
+use lib.ListN.{length, drop}
+use lib.Dec.{ltb, leb, eqb}
 use borrow.Author.Tests.{lt-ltb, le-ltb, leb-false, not-false}
 use Rattle.bitset.proofs.Bools.{or-false}
 use Rattle.molecule.specs.Lists.{Bytes}
@@ -15,10 +14,10 @@ use Rattle.molecule.specs.Touch.{connected}
 use Rattle.molecule.specs.Connected.{Own, Connected}
 use Rattle.molecule.specs.Check.{accepted, refused, row, check}
 use Rattle.molecule.proofs.Accepted.{accepted-formed}
+use Rattle.molecule.proofs.RowLaws.{row-hit, row-pass}
 use Rattle.molecule.proofs.Components.{connected-true}
-use Rattle.molecule.proofs.Lists.{zeros-at}
 use Rattle.canonize.specs.Label.{label}
-use Rattle.canonize.specs.Buffers.{written, Slots, Wrote}
+use Rattle.canonize.specs.Inner.Places.{written, Wrote}
 use Rattle.canonize.specs.Answer.{badSet, labelVerdict, labelled, turnedBack, labelAnswer, bufferAfter}
 
 module _ (r : Bytes) (s : ℕ) (buffer : Bytes) where
@@ -39,16 +38,19 @@ module _ (r : Bytes) (s : ℕ) (buffer : Bytes) where
 
   module _ (ok : check r ≡ accepted) where
     pub set-row : badSet r s ≡ true → labelVerdict r s (length buffer) ≡ refused 13 0
-    unfolding labelVerdict row
-    set-row b = rw (ok, labelVerdict, b)
+    unfolding labelVerdict
+    set-row b = rw (ok, labelVerdict) (row-hit 13 0 (badSet r s) (row 14 0 (ltb (length buffer) 389) accepted) b)
+
+    past : badSet r s ≡ false → row 13 0 (badSet r s) (row 14 0 (ltb (length buffer) 389) accepted) ≡ row 14 0 (ltb (length buffer) 389) accepted
+    past b = row-pass 13 0 (badSet r s) (row 14 0 (ltb (length buffer) 389) accepted) b
 
     pub buffer-row : badSet r s ≡ false → length buffer < 389 → labelVerdict r s (length buffer) ≡ refused 14 0
-    unfolding labelVerdict row
-    buffer-row b h = rw (ok, labelVerdict, b, lt-ltb (length buffer) 389 h)
+    unfolding labelVerdict
+    buffer-row b h = rw (ok, labelVerdict) (past b ∙ row-hit 14 0 (ltb (length buffer) 389) accepted (lt-ltb (length buffer) 389 h))
 
     pub no-row : badSet r s ≡ false → 389 ≤ length buffer → labelVerdict r s (length buffer) ≡ accepted
-    unfolding labelVerdict row
-    no-row b h = rw (ok, labelVerdict, b, le-ltb (length buffer) 389 h)
+    unfolding labelVerdict
+    no-row b h = rw (ok, labelVerdict) (past b ∙ row-pass 14 0 (ltb (length buffer) 389) accepted (le-ltb (length buffer) 389 h))
 
     -- what row 13 leaves: a fragment of the record
     pub good-set : badSet r s ≡ false → Own r s × Connected r s
@@ -57,11 +59,3 @@ module _ (r : Bytes) (s : ℕ) (buffer : Bytes) where
         let w = or-false (eqb s 0 || leb (2 ^ bonds r) s) (not (connected r s)) b in
         let o : Own r s = leb-false (2 ^ bonds r) s (or-false (eqb s 0) (leb (2 ^ bonds r) s) (w .0) .1) in
         (o, connected-true r (accepted-formed r ok .sized .few) s o (not-false (connected r s) (w .1)))
-
--- slots that hold nothing yet
-pub slots-fresh : (a l : Bytes) → a ≡ replicate 24576 0 → l ≡ replicate 64 0 → Slots a l
-slots-fresh a l e f = record {
-  wide = ap length e ∙ length-replicate {A = ℕ} 24576 0;
-  many = ap length f ∙ length-replicate {A = ℕ} 64 0;
-  fits = λ i. rw f (omega (arith, zeros-at 64 i));
-}

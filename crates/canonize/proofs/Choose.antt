@@ -8,15 +8,13 @@ use Prim.Native.Nat.{ℕ, zero, suc, _+_, _≤_}
 use native.Mathlib.Omega.{arith}
 use lib.ListN.{length}
 use lib.Dec.{eqb, ltb}
+use Rattle.molecule.proofs.Perms.{not-both, perm-eq, mem-some, perm-map, map-append, keep-mem, keep-intro, keep-split, keep-distinct, eqb-yes, eqb-no, perm-exchange}
 use Rattle.canonize.specs.Fragment.{Bond, Frag, arcs, degree, labelOf, more, touchedBy, turn}
 use Rattle.molecule.specs.Lists.{filter}
-use Rattle.canonize.proofs.Sorting.{not-both}
-use Rattle.canonize.proofs.Lists.{perm-eq, mem-some, perm-map, map-append, keep-mem, keep-intro, keep-split, keep-distinct, eqb-yes, eqb-no}
-use Rattle.canonize.proofs.Lists.{perm-exchange}
 use mathlib.Core.List.{append-nil}
 use Rattle.canonize.proofs.Peeling.{Joined}
 use Rattle.canonize.proofs.Rounds.{Treelike, arcs-some, arcs-turn}
-use Rattle.canonize.proofs.Held.{Clean}
+use Rattle.canonize.proofs.Hanging.{Clean}
 use Rattle.canonize.proofs.Parts.{Connected}
 use Rattle.canonize.proofs.Facts.{Piece, pieces-iff}
 

@@ -6,13 +6,13 @@ use mathlib.Core.List.{List, [], _∷_, _++_, map, List·Memᴰ as Mem, List·Me
 use Prim.Native.Nat.{ℕ, _+_, _*_}
 use native.Mathlib.Omega.{arith}
 use lib.ListN.{length, length-map}
+use Rattle.molecule.proofs.Perms.{perm-eq, perm-length, perm-mem, Distinct, distinct-perm, map-distinct}
 use Rattle.canonize.specs.Fragment.{Bond, Frag, arcs, labelOf}
 use Rattle.canonize.proofs.RoseTrees.{Tree, bondsIn, bonds, code-length, twoCode-length}
 use Rattle.canonize.proofs.Pairing.{allItems, items-length}
-use Rattle.canonize.proofs.Lists.{perm-eq, perm-length, perm-mem, Distinct, distinct-perm, map-distinct}
 use Rattle.canonize.proofs.Peeling.{arcs-length, onBond, treeLabel, Joined, Formed, label-of-joined}
 use Rattle.canonize.proofs.Rounds.{toBond, arcs-some}
-use Rattle.canonize.proofs.Held.{arcs-map, Clean, Holds, Result, one-centre, two-centres, attach, result, label-iff, joined-of-label}
+use Rattle.canonize.proofs.Hanging.{arcs-map, Clean, Holds, Result, one-centre, two-centres, attach, result, label-iff, joined-of-label}
 use Rattle.canonize.proofs.Parts.{Connected, connected-tree}
 use Rattle.canonize.proofs.OnStrings.{label-document}
 

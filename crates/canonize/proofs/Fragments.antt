@@ -1,58 +1,32 @@
 -- The fragment of a set of bonds of a record: its bonds, arcs and atoms by the set's members; of a connected set of an accepted record it is a clean tree. Assumes nothing.
 use mathlib.Core.Path.{_≡_, refl, ap, _∙_}
 use mathlib.Core.Logic.{_⊎_, inl, inr, _≢_, ⊎-elim, _↔_}
-use mathlib.Core.List.{List, _∷_, map, List·Memᴰ as Mem, Memᴰ·map as mem-map, Memᴰ·of-map as mem-of-map}
-use Prim.Native.Nat.{ℕ, zero, suc, _-_, _/_, _%_, _^_, _<_}
-use native.Mathlib.Nat.{sub-zero, sub-self}
+use mathlib.Core.List.{List, map, List·Memᴰ as Mem, Memᴰ·map as mem-map, Memᴰ·of-map as mem-of-map}
+use Prim.Native.Nat.{ℕ, _-_, _<_}
 use native.Mathlib.Omega.{arith}
-use lib.Dec.{eqb}
 use lib.Pow.{pow-pos}
 use lib.ListN.{length, length-map}
-use Rattle.bitset.specs.Bits.{bit, has, size, front, members, membersFrom}
-use Rattle.bitset.proofs.Laws.{bit-zero, bit-suc, member-lt, members-step, members-size}
+use Rattle.bitset.specs.Bits.{bit, has, size, members}
+use Rattle.bitset.proofs.Laws.{member-lt, members-size}
 use Rattle.bitset.proofs.Members.{members-bit, bit-members, some-member}
-use Rattle.molecule.specs.Lists.{Bytes, filter, pick, numbersFrom}
+use Rattle.molecule.specs.Lists.{Bytes, numbersFrom}
 use Rattle.molecule.specs.Record.{atoms, bonds, element, endA, endB, code, allBonds}
 use Rattle.molecule.specs.Check.{accepted, check}
 use Rattle.molecule.specs.Connected.{Own, Linked, here, step, Connected}
 use Rattle.molecule.specs.Tree.{Joins, Walk, stay, along as walk-on}
 use Rattle.molecule.proofs.Touching.{touch-in}
 use Rattle.molecule.proofs.Trees.{accepted-tree}
+use Rattle.molecule.proofs.SetLists.{members-filter}
+use Rattle.molecule.proofs.Lists.{numbers-mem}
 use Rattle.canonize.specs.Fragment.{Bond, arcs, turn}
 use Rattle.canonize.specs.Label.{bondOf, bondsOf, fragment}
 use Rattle.canonize.specs.Isomorphism.{AtomOf}
-use Rattle.canonize.proofs.Lists.{keep-same}
 use Rattle.canonize.proofs.Rounds.{arcs-mem, arcs-turn}
-use Rattle.canonize.proofs.Held.{Clean}
+use Rattle.canonize.proofs.Hanging.{Clean}
 use Rattle.canonize.proofs.Parts.{Connected as Joint, arc-bond}
 use Rattle.canonize.proofs.Choose.{touched-has, touched-in}
-use Rattle.canonize.proofs.OfRecords.{numbers-bounds, numbers-mem, Reach, at-root, along, Accepted, Steps, arrived, touching, connected-numbers}
+use Rattle.canonize.proofs.OfRecords.{Reach, at-root, along, Accepted, Steps, arrived, touching, connected-numbers}
 use Rattle.canonize.proofs.Plain.{arc, fragment-clean as part-clean}
-
--- ---- the members of a set, as a list
-
-front-pick : (d k : ℕ) (l : List ℕ) → d < 2 → front d k l ≡ pick (eqb d 1) (k ∷ l) l
-unfolding front
-front-pick zero k l h = refl
-front-pick (suc zero) k l h = refl
-front-pick (suc (suc d)) k l h = absurd (omega arith)
-
-members-from : (n k s : ℕ) → s < 2 ^ n → membersFrom k s ≡ filter (λ i. has s (i - k)) (numbersFrom k n)
-unfolding membersFrom numbersFrom
-members-from zero k s h = let z : s ≡ 0 = omega arith in rw z
-members-from (suc n) k s h =
-    let rest : filter (λ i. has s (i - k)) (numbersFrom (suc k) n) ≡ filter (λ i. has (s / 2) (i - suc k)) (numbersFrom (suc k) n) =
-    keep-same (λ i. has s (i - k)) (λ i. has (s / 2) (i - suc k)) (numbersFrom (suc k) n) (λ i m.
-    let l = numbers-bounds n (suc k) m in
-    let e : i - k ≡ suc (i - suc k) = omega (arith, l .0) in
-    rw (e, bit-suc s (i - suc k))) in
-    members-step k s
-    ∙ front-pick (s % 2) k (membersFrom (suc k) (s / 2)) (omega arith)
-    ∙ rw (members-from n (suc k) (s / 2) (omega arith), rest, sub-self k, bit-zero s)
-
--- they are the numbers that pass the set's test, in order
-pub members-filter : (n s : ℕ) → s < 2 ^ n → members s ≡ filter (has s) (numbersFrom 0 n)
-members-filter n s h = members-from n 0 s h ∙ keep-same (λ i. has s (i - 0)) (has s) (numbersFrom 0 n) (λ i m. rw sub-zero)
 
 -- ---- the bonds of a set, and their arcs: an arc joins what its bond joins
 

@@ -1,9 +1,11 @@
--- The laws of labels that other crates cite: lengths, isomorphism, parts carried along, and the order of byte strings. Assumes nothing.
-use mathlib.Core.Path.{_≡_, sym, _∙_}
+-- The laws of labels that other crates cite: lengths, isomorphism, parts carried along, the order of byte strings, sorting, equality and hashes of them, and
+-- label's answer row by row. Assumes nothing.
+use mathlib.Core.Path.{_≡_, refl, sym, _∙_}
 use mathlib.Core.Logic.{_⊎_, inl, inr, ⊎-elim}
-use mathlib.Core.Bool.{true}
+use mathlib.Core.Bool.{true, false}
 use mathlib.Core.List.{[], _∷_}
-use Prim.Native.Nat.{ℕ, _+_, _*_, _^_, _≤_}
+use Prim.Native.Nat.{ℕ, _+_, _*_, _%_, _^_, _≤_, _<_}
+use native.Mathlib.Nat.{mod-lt}
 use native.Mathlib.Omega.{arith}
 use lib.Bits.{bitOr}
 use lib.ListN.{length}
@@ -16,16 +18,19 @@ use Rattle.molecule.specs.Check.{accepted, check}
 use Rattle.molecule.specs.Connected.{Touch, Own, Connected}
 use Rattle.molecule.proofs.Accepted.{accepted-formed}
 use Rattle.molecule.proofs.Components.{own-sub, pair-connected}
-use Rattle.canonize.specs.Strings.{lexLe}
+use Rattle.canonize.specs.Strings.{lexLe, hash, hashFrom}
 use Rattle.canonize.specs.Label.{fragment, label}
 use Rattle.canonize.specs.Isomorphism.{Isomorphism}
-use Rattle.canonize.proofs.Sorting.{lex-refl, lex-trans, lex-antisym, lex-total, lex→lexLe, lexle→lex}
+use Rattle.canonize.proofs.Sorting.{lex-refl, lex-trans, lex-antisym, lex-total, lex→lexLe, lexle→lex, lexle-below, lexle-above, lexle-same}
 use Rattle.canonize.proofs.OnStrings.{label-document}
 use Rattle.canonize.proofs.Facts.{label-length as tree-length, label-size as tree-size}
 use Rattle.canonize.proofs.OfRecords.{label-fits as tree-fits}
 use Rattle.canonize.proofs.Fragments.{fragment-bonds, fragment-clean}
 use Rattle.canonize.proofs.Carried.{Carried, image, image-carried, pair-carried, touch-goes, carried-sub, carried-iso, carried-connected}
 pub use Rattle.canonize.proofs.Isomorphic.{label-iff}
+pub use Rattle.canonize.proofs.Sorting.{lexle-turn, sort-perm, sort-canonical, perm-of-sort}
+pub use Rattle.canonize.proofs.Comparing.{same-refl, same-is, same-iff}
+pub use Rattle.canonize.proofs.Answers.{answer-refused, answer-label, record-row, set-row, buffer-row, no-row, good-set}
 
 -- ---- lengths
 
@@ -94,3 +99,32 @@ le-antisym x y p q = lex-antisym x y (lexle→lex x y p) (lexle→lex y x q)
 
 pub le-total : (x y : Bytes) → (lexLe x y ≡ true) ⊎ (lexLe y x ≡ true)
 le-total x y = ⊎-elim (λ l. inl (lex→lexLe x y l)) (λ l. inr (lex→lexLe y x l)) (lex-total x y)
+
+-- ---- the order, an element at a time
+
+pub lex-nil : (y : Bytes) → lexLe [] y ≡ true
+unfolding lexLe
+lex-nil y = refl
+
+pub lex-ends : (a : ℕ) (x : Bytes) → lexLe (a ∷ x) [] ≡ false
+unfolding lexLe
+lex-ends a x = refl
+
+pub lex-head-less : (a b : ℕ) (x y : Bytes) → a < b → lexLe (a ∷ x) (b ∷ y) ≡ true
+lex-head-less = lexle-below
+
+pub lex-head-more : (a b : ℕ) (x y : Bytes) → b < a → lexLe (a ∷ x) (b ∷ y) ≡ false
+lex-head-more = lexle-above
+
+pub lex-head-same : (a b : ℕ) (x y : Bytes) → a ≡ b → lexLe (a ∷ x) (b ∷ y) ≡ lexLe x y
+lex-head-same = lexle-same
+
+-- ---- the hash of a string is small
+
+hash-from-small : (h : ℕ) (x : Bytes) → h < 36028797018963913 → hashFrom h x < 36028797018963913
+unfolding hashFrom
+hash-from-small h [] l = l
+hash-from-small h (a ∷ x) l = hash-from-small ((h * 257 + a) % 36028797018963913) x (mod-lt (h * 257 + a) (omega arith))
+
+pub hash-small : (x : Bytes) → hash x < 2 ^ 55
+hash-small x = omega (arith, hash-from-small 1 x (omega arith))

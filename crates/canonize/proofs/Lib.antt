@@ -1,13 +1,12 @@
 -- The theory of labels. Upper crates cite Laws.
 pub mod Sorting
 pub mod Wrapping
-pub mod Lists
 pub mod Sums
 pub mod RoseTrees
 pub mod Pairing
 pub mod Peeling
 pub mod Rounds
-pub mod Held
+pub mod Hanging
 pub mod Parts
 pub mod OnStrings
 pub mod Facts
@@ -19,13 +18,14 @@ pub mod Fragments
 pub mod Isomorphic
 pub mod Carried
 pub mod Laws
-pub mod WordsMembers
 pub mod Words
 pub mod Rounding
 pub mod Comparing
 pub mod Writing
+pub mod Slots
 pub mod Splitting
 pub mod Passing
 pub mod Joining
+pub mod Putting
 pub mod Labelling
 pub mod Answers

@@ -1,49 +1,23 @@
 -- A record that is accepted is a clean tree: rows 2 to 6 of document 01 give Clean; and sets of bond numbers.
 use Rattle.bitset.proofs.Bools.{two}
-use mathlib.Core.Path.{_≡_, refl, sym, ap, subst, _∙_}
+use mathlib.Core.Path.{_≡_, sym, ap, subst, _∙_}
 use mathlib.Core.Logic.{_⊎_, inl, inr}
 use mathlib.Core.Bool.{Bool, true, false}
-use mathlib.Core.List.{List, _∷_, map, List·Memᴰ as Mem, List·Memᴰ·head as m-head, List·Memᴰ·tail as m-tail, Memᴰ·cast as mem-cast, Memᴰ·map as mem-map, Memᴰ·of-map as mem-of-map}
-use Prim.Native.Nat.{ℕ, zero, suc, _+_, _*_, _≤_, _<_}
+use mathlib.Core.List.{List, map, List·Memᴰ as Mem, Memᴰ·cast as mem-cast, Memᴰ·map as mem-map, Memᴰ·of-map as mem-of-map}
+use Prim.Native.Nat.{ℕ, _+_, _*_, _≤_, _<_}
 use native.Mathlib.Omega.{arith}
 use lib.ListN.{length, length-map}
-use Rattle.molecule.specs.Lists.{numbersFrom}
+use Rattle.molecule.specs.Lists.{numbersFrom, filter}
+use Rattle.molecule.proofs.Perms.{not-both, numbers-length, numbers-distinct}
+use Rattle.molecule.proofs.Lists.{numbers-bounds, numbers-mem}
 use Rattle.canonize.specs.Fragment.{Bond, Frag, arcs, labelOf, touchedBy, turn}
-use Rattle.molecule.specs.Lists.{filter}
-use Rattle.canonize.proofs.Sorting.{not-both, Order3, below, same, above, order3}
-use Rattle.canonize.proofs.Lists.{Distinct}
 use Rattle.canonize.proofs.RoseTrees.{Code}
 use Rattle.canonize.proofs.Peeling.{treeLabel}
 use Rattle.canonize.proofs.Rounds.{arcs-turn}
-use Rattle.canonize.proofs.Held.{Clean}
+use Rattle.canonize.proofs.Hanging.{Clean}
 use Rattle.canonize.proofs.Parts.{Connected, Walk, stop, step, Meets, Linked, arc-bond}
 use Rattle.canonize.proofs.Facts.{label-length}
 use Rattle.canonize.proofs.OnStrings.{label-document}
-
-pub numbers-length : (n k : ℕ) → length (numbersFrom k n) ≡ n
-unfolding numbersFrom
-numbers-length zero k = refl
-numbers-length (suc n) k = ap suc (numbers-length n (suc k))
-
-pub numbers-bounds : (n k : ℕ) {i : ℕ} → Mem i (numbersFrom k n) → (k ≤ i) × (i < k + n)
-unfolding numbersFrom
-numbers-bounds (suc n) k (m-head e) = omega arith
-numbers-bounds (suc n) k (m-tail m) = let h = numbers-bounds n (suc k) m in omega arith
-
-pub numbers-mem : (n k i : ℕ) → k ≤ i → i < k + n → Mem i (numbersFrom k n)
-unfolding numbersFrom
-numbers-mem zero k i h g = absurd (omega arith)
-numbers-mem (suc n) k i h g = go (order3 k i) (λ l. numbers-mem n (suc k) i l (omega arith))
-  where
-    go : Order3 k i → (suc k ≤ i → Mem i (numbersFrom (suc k) n)) → Mem i (k ∷ numbersFrom (suc k) n)
-    go (below l) f = m-tail (f (omega arith))
-    go (same e) f = m-head (sym e)
-    go (above l) f = absurd (omega arith)
-
-pub numbers-distinct : (n k : ℕ) → Distinct (numbersFrom k n)
-unfolding numbersFrom
-numbers-distinct zero k = tt
-numbers-distinct (suc n) k = (λ m. let h = numbers-bounds n (suc k) m in omega arith, numbers-distinct n (suc k))
 
 -- atoms reached from r
 pub data Reach (bs : List Bond) (r : ℕ) : ℕ → Type 0 where

@@ -7,12 +7,12 @@ use mathlib.Core.Bool.{true, false, not}
 use mathlib.Core.List.{List, [], _∷_, _++_, map, List·Permᴰ as Perm, List·Permᴰ·cons as p-cons, List·Permᴰ·trans as p-trans, Permᴰ·refl as perm-refl, Permᴰ·symm as perm-sym, Permᴰ·append-left as perm-left, Permᴰ·middle as perm-middle}
 use Prim.Native.Nat.{ℕ, zero, suc, _+_}
 use lib.ListN.{length}
+use Rattle.molecule.proofs.Perms.{perm-eq, map-agree}
 use Rattle.canonize.specs.Fragment.{Bond, Frag, Peel, arcs, endAtom, finish, labelOf, more, peel, round, start, toEnds, twoLeft}
 use Rattle.canonize.specs.Strings.{collapse}
 use Rattle.molecule.specs.Lists.{filter}
 use Rattle.canonize.proofs.Wrapping.{collapse-canonical}
 use Rattle.canonize.proofs.RoseTrees.{strings, nodeCode, code, twoCode}
-use Rattle.canonize.proofs.Lists.{perm-eq, map-agree}
 use Rattle.canonize.proofs.Peeling.{both, TreePeel, gather, gather-strings, treeRound, treePeel, settle-more, settle-stop, treeTwo, treeLast, treeStart, treeLabel}
 
 -- a round more, or none

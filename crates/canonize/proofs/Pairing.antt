@@ -5,8 +5,8 @@ use Prim.Native.Nat.{ℕ, _+_}
 use native.Mathlib.Omega.{arith}
 use native.Mathlib.Decide.{ℕ-discrete}
 use lib.ListN.{length, length-append}
+use Rattle.molecule.proofs.Perms.{perm-append, perm-exchange, perm-eq, Distinct, distinct-left, distinct-right, distinct-apart, distinct-perm, perm-map, map-append, memb}
 use Rattle.canonize.proofs.RoseTrees.{Kids, nil, kid, Tree, bondsIn, Kid, here, there, Like, no-kids, pair, _≈_}
-use Rattle.canonize.proofs.Lists.{perm-append, perm-exchange, perm-eq, Distinct, distinct-left, distinct-right, distinct-apart, distinct-perm, perm-map, map-append, memb}
 
 -- what a child says: its parent, the bond's code, its atom and its element code
 pub record Item : Type 0 where

@@ -4,15 +4,14 @@ use borrow.Author.Tests.{eqb-true}
 use mathlib.Core.Path.{_≡_, refl, sym, ap, _∙_}
 use mathlib.Core.Logic.{_⊎_, inl, inr}
 use mathlib.Core.Bool.{Bool, true, false, not}
-use mathlib.Core.List.{List, [], _∷_, _++_, List·Memᴰ as Mem, List·Memᴰ·head as m-head, List·Memᴰ·tail as m-tail, Memᴰ·cast as mem-cast, List·Permᴰ as Perm, Permᴰ·symm as perm-sym}
+use mathlib.Core.List.{List, [], _∷_, _++_, List·Memᴰ as Mem, List·Memᴰ·head as m-head, List·Memᴰ·tail as m-tail, Memᴰ·cast as mem-cast, List·Permᴰ as Perm}
 use Prim.Native.Nat.{ℕ, zero, suc, _+_, _≤_}
 use native.Mathlib.Omega.{arith}
 use lib.ListN.{length, length-append}
 use lib.Dec.{eqb}
+use Rattle.molecule.proofs.Perms.{not-both, distinct-le, perm-length, Distinct, memb, keep-perm, keep-mem, keep-same, keep-split, keep-distinct, eqb-yes, eqb-no}
 use Rattle.canonize.specs.Fragment.{Bond, arcs, turn}
 use Rattle.molecule.specs.Lists.{filter, pick}
-use Rattle.canonize.proofs.Sorting.{not-both, Out, first, later, out-perm}
-use Rattle.canonize.proofs.Lists.{perm-length, perm-mem, Distinct, memb, keep-perm, keep-mem, keep-same, keep-split, keep-distinct, eqb-yes, eqb-no}
 use Rattle.canonize.proofs.Peeling.{both}
 use Rattle.canonize.proofs.Rounds.{Treelike, arcs-turn, arcs-mem, arcs-some}
 
@@ -131,23 +130,6 @@ module _ (ns : List ℕ) (bs : List Bond) (d : Distinct ns) (ends : (x : Bond) �
 
   pub inside-bound : (A : ℕ → Bool) (p : ℕ) → Mem p ns → A p ≡ true → length (filter (inside A) bs) + length ns ≤ length bs + length (filter A ns)
   inside-bound A p i h = grows (length (filter (λ n. not (A n)) ns)) A p i h (omega arith)
-
--- pigeonhole
-pub mem-out : {A : Type 0} {x : A} (l : List A) → Mem x l → (r : List A) × Out x l r
-mem-out (y ∷ l) (m-head e) = (l, first e)
-mem-out (y ∷ l) (m-tail m) = let (r, o) = mem-out l m in (y ∷ r, later o)
-
-pub distinct-le : {A : Type 0} (k l : List A) → Distinct k → ((x : A) → Mem x k → Mem x l) → length k ≤ length l
-distinct-le [] l d h = omega arith
-distinct-le {A} (x ∷ k) l d h =
-    let (r, o) = mem-out l (h x (m-head refl)) in
-    let p : Perm (x ∷ r) l = out-perm o in
-    let i : length k ≤ length r = distinct-le k r (d .1) (λ y m. rest r y m (perm-mem (perm-sym p) (h y (m-tail m)))) in
-    omega (arith, perm-length p)
-  where
-    rest : (r : List A) (y : A) → Mem y k → Mem y (x ∷ r) → Mem y r
-    rest r y m (m-head e) = absurd (d .0 (mem-cast (sym e) m))
-    rest r y m (m-tail n) = n
 
 is : {P : Type 0} → Dec P → Bool
 is (yes p) = true

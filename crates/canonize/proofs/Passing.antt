@@ -11,7 +11,7 @@ use Rattle.bitset.proofs.Laws.{bit-le, bit-or, bit-empty, bit-one, same, digits
 use Rattle.bitset.proofs.Members.{sub-in, or-left-in, or-right-in, diff-sub, one-is}
 use Rattle.molecule.specs.Lists.{Bytes}
 use Rattle.canonize.specs.Strings.{lexLe}
-use Rattle.canonize.specs.Buffers.{Least, After}
+use Rattle.canonize.specs.Inner.Places.{Least, After}
 use Rattle.canonize.proofs.Sorting.{lexle-refl, lexle-trans, lexle-turn}
 
 -- a turn: i is passed, and r is left

@@ -9,12 +9,11 @@ use Prim.Native.Nat.{ℕ, zero, suc, _+_, _*_}
 use native.Mathlib.Omega.{arith}
 use lib.ListN.{length, length-map}
 use lib.Dec.{eqb}
+use Rattle.molecule.proofs.Perms.{perm-cons, Out, first, later, perm-append, perm-eq, perm-length, Distinct, distinct-perm, perm-map, map-distinct, keep-perm, keep-mem, keep-map, map-agree, eqb-yes, bool-iff}
 use Rattle.canonize.specs.Fragment.{Bond, Frag, arcs, endAtom, more, toEnds, turn}
 use Rattle.molecule.specs.Lists.{filter}
-use Rattle.canonize.proofs.Sorting.{perm-cons, Out, first, later}
 use Rattle.canonize.proofs.Wrapping.{collapse-canonical}
 use Rattle.canonize.proofs.RoseTrees.{Kids, nil, kid, Tree, strings, nodeCode, code, twoCode, perm-two}
-use Rattle.canonize.proofs.Lists.{perm-append, perm-eq, perm-length, Distinct, distinct-perm, perm-map, map-distinct, keep-perm, keep-mem, keep-map, map-agree, eqb-yes, bool-iff}
 
 abbrev pub onBond : (ℕ → ℕ) → Bond → Bond
 onBond f b = record { u = f (b .u); v = f (b .v); code = b .code }

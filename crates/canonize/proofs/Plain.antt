@@ -10,13 +10,13 @@ use Prim.Native.Nat.{ℕ, _+_, _≤_}
 use native.Mathlib.Omega.{arith}
 use lib.ListN.{length}
 use lib.Dec.{eqb}
+use Rattle.molecule.proofs.Perms.{perm-mem, mem-some, Distinct, keep-mem, keep-intro, keep-distinct, eqb-yes, distinct-le}
 use Rattle.canonize.specs.Fragment.{Bond, Frag, arcs, labelOf, touchedBy, turn}
 use Rattle.molecule.specs.Lists.{filter, numbersFrom}
-use Rattle.canonize.proofs.Lists.{perm-mem, mem-some, Distinct, keep-mem, keep-intro, keep-distinct, eqb-yes}
 use Rattle.canonize.proofs.Peeling.{onBond, both, Joined}
 use Rattle.canonize.proofs.Rounds.{Treelike, arcs-turn}
-use Rattle.canonize.proofs.Held.{Clean, label-iff}
-use Rattle.canonize.proofs.Parts.{Connected, inside, inside-bound, distinct-le, arc-bond}
+use Rattle.canonize.proofs.Hanging.{Clean, label-iff}
+use Rattle.canonize.proofs.Parts.{Connected, inside, inside-bound, arc-bond}
 use Rattle.canonize.proofs.Facts.{distinct-image, joined-arc, joined-arc-onto, joined-injective, piece-clean}
 use Rattle.canonize.proofs.Transport.{distinct-same, either, right, or}
 use Rattle.canonize.proofs.Choose.{piece-of, chosen-by}

@@ -5,8 +5,8 @@ use mathlib.Core.List.{List, [], _∷_, head-eq-of-cons-eq, tail-eq-of-cons-eq, 
 use Prim.Native.Nat.{ℕ, _+_, _*_, _≤_}
 use native.Mathlib.Omega.{arith}
 use lib.ListN.{length}
+use Rattle.molecule.proofs.Perms.{Out, first, later, perm-cons, perm-nil}
 use Rattle.canonize.specs.Strings.{collapse}
-use Rattle.canonize.proofs.Sorting.{Out, first, later, perm-cons, perm-nil}
 use Rattle.canonize.proofs.Wrapping.{done, free, Balanced, All, none, both, collapse-balanced, collapse-perm, total, total-nil, total-cons, length-collapse}
 
 -- The children of an atom, first child next sibling: bond code, atom number, element code, what hangs under the child, the other children.

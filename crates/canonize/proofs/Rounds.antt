@@ -10,12 +10,11 @@ use native.Mathlib.Omega.{arith}
 use native.Mathlib.Decide.{ℕ-discrete}
 use lib.ListN.{length, length-append, length-map}
 use lib.Dec.{eqb}
+use Rattle.molecule.proofs.Perms.{not-both, perm-append, perm-exchange, perm-eq, perm-length, perm-mem, mem-some, Distinct, perm-map, keep-perm, keep-mem, keep-intro, keep-map, keep-same, keep-split, keep-distinct, map-agree, eqb-yes, eqb-no}
 use Rattle.canonize.specs.Fragment.{Bond, arcs, degree, endAtom, more, toEnds, turn}
 use Rattle.molecule.specs.Lists.{filter, pick}
-use Rattle.canonize.proofs.Sorting.{not-both}
 use Rattle.canonize.proofs.RoseTrees.{Kids, code}
 use Rattle.canonize.proofs.Pairing.{Item, item, items}
-use Rattle.canonize.proofs.Lists.{perm-append, perm-exchange, perm-eq, perm-length, perm-mem, mem-some, Distinct, perm-map, keep-perm, keep-mem, keep-intro, keep-map, keep-same, keep-split, keep-distinct, map-agree, eqb-yes, eqb-no}
 use Rattle.canonize.proofs.Sums.{flat, flat-append, flat-perm, flat-agree, flat-split, flat-length, flat-map, map-flat, flat-flat, flat-keep, group, keep-both}
 use Rattle.canonize.proofs.Peeling.{both, gather, arcs-length, arcs-keep}
 

@@ -1,44 +1,14 @@
 -- Byte strings as lists of numbers: the lexicographic order, insertion sort, and that sorting forgets the order and nothing else.
 use borrow.Author.Tests.{le-ltb, lt-ltb}
 use Rattle.bitset.proofs.Bools.{two}
-use mathlib.Core.Path.{_≡_, refl, sym, ap, ap₂, subst, _∙_}
-use mathlib.Core.Bool.{Bool, true, false}
+use mathlib.Core.Path.{_≡_, refl, sym, ap, ap₂, _∙_}
+use mathlib.Core.Bool.{true, false}
 use mathlib.Core.Logic.{_⊎_, inl, inr}
 use mathlib.Core.List.{List, [], _∷_, List·Permᴰ as Perm, List·Permᴰ·nil as p-nil, List·Permᴰ·cons as p-cons, List·Permᴰ·swap as p-swap, List·Permᴰ·trans as p-trans, Permᴰ·refl as perm-refl, Permᴰ·symm as perm-sym}
 use Prim.Native.Nat.{ℕ, _<_}
 use native.Mathlib.Omega.{arith}
-use native.Mathlib.Decide.{decLt}
-use lib.Dec.{T}
+use Rattle.molecule.proofs.Perms.{Order3, below, same, above, order3, not-both}
 use Rattle.canonize.specs.Strings.{insert, lexLe, sort}
-
--- which of two numbers is larger
-pub data Order3 (x y : ℕ) : Type 0 where
-  below : x < y → Order3 x y
-  same : x ≡ y → Order3 x y
-  above : y < x → Order3 x y
-
-pub order3 : (x y : ℕ) → Order3 x y
-order3 x y = one (decLt x y) (decLt y x)
-  where
-    one : Dec (x < y) → Dec (y < x) → Order3 x y
-    one (yes h) d = below h
-    one (no h) (yes g) = above g
-    one (no h) (no g) = same (omega arith)
-
-abbrev IsTrue : Bool → Type 0
-IsTrue true = Unit {0}
-IsTrue false = ⊥
-
-pub not-both : {b : Bool} → b ≡ true → b ≡ false → ⊥
-not-both p q = subst IsTrue (sym p ∙ q) tt
-
-pub T-true : (b : Bool) → T b → b ≡ true
-T-true true t = refl
-T-true false t = absurd t
-
-pub T-false : (b : Bool) → (T b → ⊥) → b ≡ false
-T-false true f = absurd (f tt)
-T-false false f = refl
 
 -- the order as a statement, and as a test
 abbrev pub Lex : List ℕ → List ℕ → Type 0
@@ -185,32 +155,3 @@ sort-canonical (p-trans d g) = sort-canonical d ∙ sort-canonical g
 -- and nothing else
 pub perm-of-sort : (xs ys : List (List ℕ)) → sort xs ≡ sort ys → Perm xs ys
 perm-of-sort xs ys e = let q : Perm (sort xs) ys = rw e (sort-perm ys) in p-trans (perm-sym (sort-perm xs)) q
-
--- one string taken out of a list, and what is left
-pub data Out {A : Type 0} (x : A) : List A → List A → Type 0 where
-  first : {y : A} {ys : List A} → x ≡ y → Out x (y ∷ ys) ys
-  later : {y : A} {ys zs : List A} → Out x ys zs → Out x (y ∷ ys) (y ∷ zs)
-
-pub out-perm : {A : Type 0} {x : A} {ys zs : List A} → Out x ys zs → Perm (x ∷ zs) ys
-out-perm (first {ys = ys} e) = p-cons e (perm-refl ys)
-out-perm (later o) = p-trans (p-swap refl refl) (p-cons refl (out-perm o))
-
--- a permutation takes what is out of one list out of the other
-pub perm-out : {A : Type 0} {x : A} {xs ys xs′ : List A} → Perm xs ys → Out x xs xs′ → (ys′ : List A) × Out x ys ys′ × Perm xs′ ys′
-perm-out p-nil o = elim o [ ]
-perm-out (p-cons {l₂ = l₂} e d) (first g) = (l₂, first (g ∙ e), d)
-perm-out (p-cons {b = b} e d) (later o) = let (zs, o′, d′) = perm-out d o in (b ∷ zs, later o′, p-cons e d′)
-perm-out (p-swap {a′ = a′} {l = l} e g) (first h) = (a′ ∷ l, later (first (h ∙ e)), p-cons g (perm-refl l))
-perm-out (p-swap {b′ = b′} {l = l} e g) (later (first h)) = (b′ ∷ l, first (h ∙ g), p-cons e (perm-refl l))
-perm-out (p-swap {a′ = a′} {b′ = b′} e g) (later (later {zs = zs} o)) = (a′ ∷ b′ ∷ zs, later (later o), p-swap e g)
-perm-out (p-trans d g) o = let (zs, o′, d′) = perm-out d o in let (ws, o″, d″) = perm-out g o′ in (ws, o″, p-trans d′ d″)
-
-pub perm-cons : {A : Type 0} {x : A} {xs ys : List A} → Perm (x ∷ xs) ys → (ys′ : List A) × Out x ys ys′ × Perm xs ys′
-perm-cons d = perm-out d (first refl)
-
-pub perm-nil : {A : Type 0} {ys : List A} → Perm [] ys → ys ≡ []
-perm-nil {ys = ys} d = go ys d
-  where
-    go : {A : Type 0} (zs : List A) → Perm [] zs → zs ≡ []
-    go [] e = refl
-    go (z ∷ zs) e = let (ws, o, f) = perm-out (perm-sym e) (first refl) in absurd (elim o [ ])

@@ -1,22 +1,20 @@
--- Sorting by its least string, and by the strings before and after one; the members of a set as those of two parts. Assumes nothing.
+-- Sorting by its least string, and by the strings before and after one. Assumes nothing.
 use Rattle.bitset.proofs.Bools.{two}
 use mathlib.Core.Path.{_≡_, refl, sym, ap, subst, _∙_}
 use mathlib.Core.Logic.{_⊎_, inl, inr}
 use mathlib.Core.Bool.{true, false}
-use mathlib.Core.List.{List, [], _∷_, _++_, map, append-nil, List·Memᴰ as Mem, List·Memᴰ·head as m-head, List·Memᴰ·tail as m-tail, Memᴰ·of-map as mem-of-map, List·Permᴰ as Perm, List·Permᴰ·nil as p-nil, List·Permᴰ·cons as p-cons, List·Permᴰ·trans as p-trans, Permᴰ·refl as perm-refl, Permᴰ·symm as perm-sym, Permᴰ·middle as perm-middle}
-use Prim.Native.Nat.{ℕ, zero, suc, _+_, _-_, _/_, _%_, _^_, _≤_, _<_}
-use native.Mathlib.Nat.{add-zero, zero-add, suc-add, add-suc}
+use mathlib.Core.List.{List, [], _∷_, _++_, map, List·Memᴰ as Mem, List·Memᴰ·head as m-head, List·Memᴰ·tail as m-tail, Memᴰ·of-map as mem-of-map, List·Permᴰ as Perm, List·Permᴰ·cons as p-cons, List·Permᴰ·trans as p-trans, Permᴰ·refl as perm-refl, Permᴰ·symm as perm-sym, Permᴰ·middle as perm-middle}
+use Prim.Native.Nat.{ℕ, _+_, _-_, _^_}
 use native.Mathlib.Omega.{arith}
-use lib.Arith.{bin-ind}
-use lib.Bits.{and-shr, and-step, and-le-l, and-zero-r}
-use Rattle.bitset.specs.Bits.{bit, Sub, diff, front, membersFrom, members}
+use Rattle.bitset.specs.Bits.{bit, diff, members}
 use Rattle.bitset.proofs.Members.{members-bit}
-use Rattle.bitset.proofs.Laws.{diff-half, diff-low, members-step, one-sub, bit-diff, bit-le}
+use Rattle.bitset.proofs.Laws.{bit-diff, bit-le}
 use Rattle.molecule.specs.Lists.{Bytes}
+use Rattle.molecule.proofs.SetLists.{members-split, members-out}
+use Rattle.molecule.proofs.Perms.{perm-mem, perm-map, map-append, perm-eq}
 use Rattle.canonize.specs.Strings.{lexLe, insert, sort}
-use Rattle.canonize.specs.Buffers.{Least, After}
+use Rattle.canonize.specs.Inner.Places.{Least, After}
 use Rattle.canonize.proofs.Sorting.{lexle-trans, lexle-turn, insert-le, insert-gt, insert-nil, sort-perm, sort-canonical}
-use Rattle.canonize.proofs.Lists.{perm-mem, perm-map, map-append, perm-eq}
 
 -- ---- sorting
 
@@ -48,55 +46,6 @@ sort-append [] ys h = refl
 sort-append (x ∷ xs) ys h =
     ap (insert x) (sort-append xs ys (λ z m. h z (m-tail m)))
     ∙ insert-before x (sort xs) (sort ys) (λ y m. h x (m-head refl) y (perm-mem (sort-perm ys) m))
-
--- ---- the members of a set
-
--- a set and a part of it
-front-split : (b c k : ℕ) (l m n : List ℕ) → b < 2 → c ≤ b → Perm l (m ++ n) → Perm (front b k l) (front (b - c) k m ++ front c k n)
-unfolding front
-front-split zero zero k l m n h g p = p
-front-split zero (suc c) k l m n h g p = absurd (omega arith)
-front-split (suc zero) zero k l m n h g p = p-cons refl p
-front-split (suc zero) (suc zero) k l m n h g p = p-trans (p-cons refl p) (perm-sym (perm-middle k m n))
-front-split (suc zero) (suc (suc c)) k l m n h g p = absurd (omega arith)
-front-split (suc (suc b)) c k l m n h g p = absurd (omega arith)
-
--- the digits of a set and of a part of it, from place k on
-Split : ℕ → Type 0
-Split s = (t k : ℕ) → Sub t s → Perm (membersFrom k s) (membersFrom k (diff s t) ++ membersFrom k t)
-
-split-none : (t k : ℕ) → Sub t 0 → Perm (membersFrom k 0) (membersFrom k (diff 0 t) ++ membersFrom k t)
-unfolding membersFrom diff
-split-none t k h = let e : t ≡ 0 = sym h ∙ and-zero-r t in rw e p-nil
-
-split-step : (s t k : ℕ) → Sub t s → Perm (membersFrom (suc k) (s / 2)) (membersFrom (suc k) (diff (s / 2) (t / 2)) ++ membersFrom (suc k) (t / 2)) → Perm (membersFrom k s) (membersFrom k (diff s t) ++ membersFrom k t)
-split-step s t k h p =
-    rw (members-step k s, members-step k (diff s t), members-step k t, diff-half s t, diff-low s t)
-    (front-split (s % 2) (t % 2) k (membersFrom (suc k) (s / 2)) (membersFrom (suc k) (diff (s / 2) (t / 2))) (membersFrom (suc k) (t / 2)) (omega arith) (omega (arith, and-step t s, h, and-le-l (t / 2) (s / 2))) p)
-
--- the members of a set are those of a part of it and those of the rest
-pub members-split : (s t : ℕ) → Sub t s → Perm (members s) (members (diff s t) ++ members t)
-unfolding Split
-members-split s t h = bin-ind Split split-none (λ s ih t k h. split-step s t k h (ih (t / 2) (suc k) (half t s h))) s t 0 h
-  where
-    half : (t s : ℕ) → Sub t s → Sub (t / 2) (s / 2)
-    half t s h = sym (and-shr t s 1) ∙ ap (λ (n : ℕ). n / 2) h
-
-members-one : (i k : ℕ) → membersFrom k (2 ^ i) ≡ (k + i) ∷ []
-unfolding membersFrom front
-members-one zero k = ap (λ (n : ℕ). n ∷ []) (sym (add-zero k))
-members-one (suc i) k =
-    let e : 2 ^ suc i % 2 ≡ 0 = omega arith in
-    let h : 2 ^ suc i / 2 ≡ 2 ^ i = omega arith in
-    members-step k (2 ^ suc i) ∙ rw (e, h, members-one i (suc k)) (ap (λ (n : ℕ). n ∷ []) (suc-add k i ∙ sym (add-suc k i)))
-
--- one member and the others
-pub members-out : (s i : ℕ) → bit s i ≡ 1 → Perm (members s) (i ∷ members (diff s (2 ^ i)))
-members-out s i h =
-    let one : members (2 ^ i) ≡ i ∷ [] = members-one i 0 ∙ ap (λ (n : ℕ). n ∷ []) (zero-add i) in
-    let rest : List ℕ = members (diff s (2 ^ i)) in
-    let p : Perm (members s) (rest ++ (i ∷ [])) = rw one at (members-split s (2 ^ i) (one-sub s i h)) in
-    p-trans p (rw append-nil at (perm-middle i rest []))
 
 -- ---- sorting the strings of a set
 

@@ -10,7 +10,7 @@ use native.Mathlib.Nat.{mul-suc}
 use lib.ListN.{length, length-append}
 use lib.Dec.{eqb}
 use Rattle.molecule.specs.Lists.{filter, pick}
-use Rattle.canonize.proofs.Lists.{perm-append, perm-exchange, perm-eq, Distinct, map-append, eqb-yes, eqb-no}
+use Rattle.molecule.proofs.Perms.{perm-append, perm-exchange, perm-eq, Distinct, map-append, eqb-yes, eqb-no}
 
 abbrev pub flat : {A B : Type 0} → (A → List B) → List A → List B
 flat g [] = []

@@ -9,13 +9,12 @@ use Prim.Native.Nat.{ℕ, _≤_}
 use native.Mathlib.Omega.{arith}
 use lib.ListN.{length}
 use lib.Dec.{eqb}
+use Rattle.molecule.proofs.Perms.{not-both, out-perm, perm-length, perm-mem, Distinct, distinct-perm, keep-perm, keep-mem, keep-distinct, eqb-yes, mem-out, distinct-le}
 use Rattle.canonize.specs.Fragment.{Bond, Frag, arcs, labelOf, touchedBy, turn}
 use Rattle.molecule.specs.Lists.{filter, pick}
-use Rattle.canonize.proofs.Sorting.{not-both, out-perm}
-use Rattle.canonize.proofs.Lists.{perm-length, perm-mem, Distinct, distinct-perm, keep-perm, keep-mem, keep-distinct, eqb-yes}
 use Rattle.canonize.proofs.Peeling.{both, treeLabel}
 use Rattle.canonize.proofs.Rounds.{Treelike, arcs-mem, arcs-turn}
-use Rattle.canonize.proofs.Parts.{Connected, Walk, stop, step, Meets, inside, inside-bound, mem-out, distinct-le}
+use Rattle.canonize.proofs.Parts.{Connected, Walk, stop, step, Meets, inside, inside-bound}
 use Rattle.canonize.proofs.Facts.{part}
 
 -- two lists without repetition and with the same members

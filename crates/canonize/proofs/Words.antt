@@ -1,7 +1,7 @@
 -- A peeling by words: the set L of the bonds left, and for each bond taken off the string X that it handed over.
 use borrow.Author.Tests.{eqb-true, le-ltb, lt-ltb}
 use mathlib.Core.Path.{_≡_, refl, sym, ap, ap₂, _∙_}
-use mathlib.Core.Logic.{_⊎_, inl, inr, _≢_}
+use mathlib.Core.Logic.{_⊎_, inl, inr, _≢_, ⊎-elim}
 use mathlib.Core.Bool.{Bool, true, false, not, _&&_, _||_}
 use mathlib.Core.List.{List, [], _∷_, _++_, map, List·Memᴰ as Mem, List·Memᴰ·head as m-head, List·Memᴰ·tail as m-tail, Memᴰ·map as mem-map, List·Permᴰ as Perm, List·Permᴰ·cons as p-cons, List·Permᴰ·trans as p-trans, Permᴰ·symm as perm-sym, Permᴰ·middle as perm-middle}
 use Prim.Native.Nat.{ℕ, zero, suc, _+_, _*_, _≤_, _<_}
@@ -10,31 +10,32 @@ use lib.ListN.{length, length-append, length-map}
 use lib.Bits.{bitAnd, and-self}
 use lib.Dec.{eqb}
 use Rattle.bitset.specs.Bits.{bit, Sub, has, diff, size, members}
-use Rattle.bitset.proofs.Bools.{and-true, two}
+use Rattle.bitset.proofs.Bools.{and-true, or-true, or-left, or-right, two}
 use Rattle.bitset.proofs.Laws.{bit-le, bit-and, bit-diff, bit-empty, same, sub-trans, member-lt, size-empty, size-le, members-size, members-done}
 use Rattle.bitset.proofs.Members.{members-bit, bit-members, in-or-out, sub-of, and-in, diff-in, diff-sub, setOf-in, setOf-has}
 use Rattle.molecule.specs.Lists.{Bytes, filter, pick}
 use Rattle.molecule.specs.Record.{bonds, element, endA, endB, code}
-use Rattle.molecule.specs.Touch.{isEnd, bondsAt}
+use Rattle.molecule.specs.Touch.{bondsAt}
 use Rattle.molecule.specs.Tree.{Formed}
 use Rattle.molecule.specs.Connected.{Own}
 use Rattle.molecule.proofs.Components.{own-sub}
+use Rattle.molecule.proofs.Touching.{at-in, at-has}
+use Rattle.molecule.proofs.SetLists.{only, members-keep, members-less}
+use Rattle.molecule.proofs.Perms.{not-both, perm-append, perm-eq, perm-length, perm-map, map-append, map-agree, keep-mem, keep-intro, keep-map, eqb-yes}
+use Rattle.molecule.proofs.SetLists.{members-keep, members-less}
 use Rattle.canonize.specs.Strings.{collapse}
 use Rattle.canonize.specs.Fragment.{Bond, Peel, more, turn, arcs, degree, endAtom, toEnds, ownString, start, round, peel, twoLeft, finish, labelOf}
 use Rattle.canonize.specs.Label.{bondOf, bondsOf, fragment, label}
-use Rattle.canonize.specs.Words.{isTip, hasTip, outer, tip, far, received, stringsAt}
-use Rattle.canonize.proofs.Sorting.{not-both}
+use Rattle.canonize.specs.Inner.Words.{isTip, hasTip, outer, tip, far, received, stringsAt}
 use Rattle.canonize.proofs.Wrapping.{collapse-canonical}
 use Rattle.canonize.proofs.RoseTrees.{nodeCode-length}
 use Rattle.canonize.proofs.Pairing.{Item, items, items-length}
 use Rattle.canonize.proofs.Sums.{flat}
-use Rattle.canonize.proofs.Lists.{perm-append, perm-eq, perm-length, perm-map, map-append, map-agree, keep-mem, keep-intro, keep-map, eqb-yes}
 use Rattle.canonize.proofs.Peeling.{TreePeel, treeStart, treeRound, arcs-length}
 use Rattle.canonize.proofs.Rounds.{Treelike, not-true, stay, arcs-mem, below, toBond, ends-apart, round-shorter, round-tree}
-use Rattle.canonize.proofs.Held.{Clean, Held, start-held, round-held}
+use Rattle.canonize.proofs.Hanging.{Clean, Hanging, start-hanging, round-hanging}
 use Rattle.canonize.proofs.OnStrings.{peel-more, peel-stop, Says, says-code, start-says, round-says}
 use Rattle.canonize.proofs.Choose.{more-bonds}
-use Rattle.canonize.proofs.WordsMembers.{members-keep, members-less}
 
 -- what is left of a peeling gives the label
 abbrev pub after : ℕ → Peel → Bytes
@@ -48,11 +49,23 @@ pub record Peeled (r : Bytes) (s L : ℕ) (X : ℕ → Bytes) (z : Peel) : Type 
   pub tree : Treelike (z .present) (z .left)
   pub own : (v : ℕ) → Mem v (z .present) → Perm (stringsAt r s L X v) (z .own v)
   pub trees : TreePeel
-  pub held : Held (fragment r s) trees
+  pub held : Hanging (fragment r s) trees
   pub says : Says (element r) trees z
   pub rest : (f : ℕ) → length (z .present) ≤ f → label r s ≡ after f z
 
 -- ---- arcs by the numbers of their bonds
+
+-- v is an end of bond i, as a test; so the bonds at v are those of which it is
+abbrev endOf : Bytes → ℕ → ℕ → Bool
+endOf r v i = eqb (endA r i) v || eqb (endB r i) v
+
+at-test : (r : Bytes) (v i : ℕ) → bit (bondsAt r v) i ≡ 1 → endOf r v i ≡ true
+at-test r v i h = ⊎-elim (λ e. or-left (eqb (endA r i) v) (eqb (endB r i) v) (eqb-yes e)) (λ e. or-right (eqb (endA r i) v) (eqb (endB r i) v) (eqb-yes e))
+    (at-in r v i h .1)
+
+test-at : (r : Bytes) (v i : ℕ) → i < bonds r → endOf r v i ≡ true → bit (bondsAt r v) i ≡ 1
+test-at r v i l e = at-has r v i l (⊎-elim (λ h. inl (eqb-true (endA r i) v h)) (λ h. inr (eqb-true (endB r i) v h))
+    (or-true (eqb (endA r i) v) (eqb (endB r i) v) e))
 
 keep-two : (p : Bond → Bool) (x y : Bond) (l : List Bond) → filter p (x ∷ y ∷ l) ≡ filter p (x ∷ y ∷ []) ++ filter p l
 keep-two p x y l = go (two (p x)) (two (p y))
@@ -82,23 +95,23 @@ module _ {r : Bytes} (formed : Formed r) (L : ℕ) (own : Own r L) where
   apart : (i : ℕ) → Mem i (members L) → endA r i ≢ endB r i
   apart i m = formed .ends i (member-lt (bonds r) L i own (members-bit L i m)) .2
 
-  at-members : (v : ℕ) → filter (isEnd r v) (members L) ≡ members (bitAnd (bondsAt r v) L)
-  unfolding bondsAt
+  at-members : (v : ℕ) → filter (endOf r v) (members L) ≡ members (bitAnd (bondsAt r v) L)
   at-members v =
-      members-keep (isEnd r v) L (bitAnd (bondsAt r v) L) (λ i h. (omega (arith, bit-and (bondsAt r v) L i, bit-le L i), setOf-in (isEnd r v) (bonds r) i (omega (arith, bit-and (bondsAt r v) L i, bit-le (bondsAt r v) i)) .1))
-      (λ i h e. and-in (bondsAt r v) L i (setOf-has (isEnd r v) (bonds r) i (member-lt (bonds r) L i own h) e) h)
+      members-keep (endOf r v) L (bitAnd (bondsAt r v) L)
+      (λ i h. (omega (arith, bit-and (bondsAt r v) L i, bit-le L i), at-test r v i (omega (arith, bit-and (bondsAt r v) L i, bit-le (bondsAt r v) i))))
+      (λ i h e. and-in (bondsAt r v) L i (test-at r v i (member-lt (bonds r) L i own h) e) h)
 
   pub degree-size : (v : ℕ) → degree (arcs (bondsOf r L)) v ≡ size (bitAnd (bondsAt r v) L)
-  unfolding isEnd
   degree-size v =
       sym (length-map (filter (λ (x : Bond). eqb (x .v) v) (arcs (bondsOf r L))) (λ (x : Bond). x .code))
-      ∙ ap length (arcs-by (bondOf r) (λ (x : Bond). eqb (x .v) v) (isEnd r v) (λ (x : Bond). x .code) (code r) (members L) (λ i m. each i (apart i m) (two (eqb (endA r i) v)) (two (eqb (endB r i) v))))
-      ∙ length-map (filter (isEnd r v) (members L)) (code r)
+      ∙ ap length (arcs-by (bondOf r) (λ (x : Bond). eqb (x .v) v) (endOf r v) (λ (x : Bond). x .code) (code r) (members L)
+      (λ i m. each i (apart i m) (two (eqb (endA r i) v)) (two (eqb (endB r i) v))))
+      ∙ length-map (filter (endOf r v) (members L)) (code r)
       ∙ ap length (at-members v)
       ∙ members-size (bitAnd (bondsAt r v) L) 0
     where
       each : (i : ℕ) → endA r i ≢ endB r i → (eqb (endA r i) v ≡ true) ⊎ (eqb (endA r i) v ≡ false) → (eqb (endB r i) v ≡ true) ⊎ (eqb (endB r i) v ≡ false)
-          → map (λ (x : Bond). x .code) (filter (λ (x : Bond). eqb (x .v) v) (bondOf r i ∷ turn (bondOf r i) ∷ [])) ≡ pick (isEnd r v i) (code r i ∷ []) []
+          → map (λ (x : Bond). x .code) (filter (λ (x : Bond). eqb (x .v) v) (bondOf r i ∷ turn (bondOf r i) ∷ [])) ≡ pick (endOf r v i) (code r i ∷ []) []
       each i n (inl h) (inl k) = absurd (n (eqb-true (endA r i) v h ∙ sym (eqb-true (endB r i) v k)))
       each i n (inl h) (inr k) = rw (h, k)
       each i n (inr h) (inl k) = rw (h, k)
@@ -137,7 +150,7 @@ peeled-start {r} {s} c X = record {
   tree = c .tree;
   own = λ v m. perm-eq (ap (λ (l : List ℕ). ownString (element r) v ∷ map X l) (members-done (received r s s v) (none v)));
   trees = treeStart (fragment r s);
-  held = start-held (fragment r s) c;
+  held = start-hanging (fragment r s) c;
   says = start-says (fragment r s);
   rest = λ f h. after-enough (length (fragment r s .atoms)) f (start (fragment r s)) (c .tree) (omega arith) h;
 }
@@ -191,22 +204,21 @@ module _ {r : Bytes} (formed : Formed r) (L : ℕ) (own : Own r L) where
           go (inr k) = diff-in L (outer r L) i h k
 
   -- the bonds at v that go
-  going-members : (v : ℕ) → filter (λ i. isEnd r v i && hasTip r L i) (members L) ≡ members (bitAnd (bondsAt r v) (outer r L))
-  unfolding bondsAt
-  going-members v = members-keep (λ i. isEnd r v i && hasTip r L i) L (bitAnd (bondsAt r v) (outer r L))
+  going-members : (v : ℕ) → filter (λ i. endOf r v i && hasTip r L i) (members L) ≡ members (bitAnd (bondsAt r v) (outer r L))
+  going-members v = members-keep (λ i. endOf r v i && hasTip r L i) L (bitAnd (bondsAt r v) (outer r L))
       (λ i h.
       let w = outer-in r L i (omega (arith, bit-and (bondsAt r v) (outer r L) i, bit-le (outer r L) i)) in
-      (w .0, rw (setOf-in (isEnd r v) (bonds r) i (omega (arith, bit-and (bondsAt r v) (outer r L) i, bit-le (bondsAt r v) i)) .1, w .1)))
+      (w .0, rw (at-test r v i (omega (arith, bit-and (bondsAt r v) (outer r L) i, bit-le (bondsAt r v) i)), w .1)))
       (λ i h e.
-      let w = and-true (isEnd r v i) (hasTip r L i) e in
-      and-in (bondsAt r v) (outer r L) i (setOf-has (isEnd r v) (bonds r) i (member-lt (bonds r) L i own h) (w .0)) (outer-has r L i own h (w .1)))
+      let w = and-true (endOf r v i) (hasTip r L i) e in
+      and-in (bondsAt r v) (outer r L) i (test-at r v i (member-lt (bonds r) L i own h) (w .0)) (outer-has r L i own h (w .1)))
 
   -- what is handed to an atom that stays: Y i for each bond i at it that goes
   handed-words : {C : Type 0} (v : ℕ) → isTip r L v ≡ false → (G : ℕ → ℕ → C) (Y : ℕ → C) → ((i : ℕ) → bit (outer r L) i ≡ 1 → Y i ≡ G (code r i) (tip r L i))
       → map (λ (x : Bond). G (x .code) (x .v)) (toEnds (isTip r L) v (arcs (bondsOf r L))) ≡ map Y (members (bitAnd (bondsAt r v) (outer r L)))
-  unfolding isEnd tip
+  unfolding tip
   handed-words {C} v stays G Y h =
-      arcs-by (bondOf r) (λ (x : Bond). eqb (x .u) v && isTip r L (x .v)) (λ i. isEnd r v i && hasTip r L i) (λ (x : Bond). G (x .code) (x .v)) Y (members L)
+      arcs-by (bondOf r) (λ (x : Bond). eqb (x .u) v && isTip r L (x .v)) (λ i. endOf r v i && hasTip r L i) (λ (x : Bond). G (x .code) (x .v)) Y (members L)
       (λ i m. each i (apart formed L own i m) (members-bit L i m) (two (eqb (endA r i) v)) (two (eqb (endB r i) v)) (two (isTip r L (endA r i))) (two (isTip r L (endB r i))))
       ∙ ap (map Y) (going-members v)
     where
@@ -214,7 +226,8 @@ module _ {r : Bytes} (formed : Formed r) (L : ℕ) (own : Own r L) where
       Way b = (b ≡ true) ⊎ (b ≡ false)
 
       each : (i : ℕ) → endA r i ≢ endB r i → bit L i ≡ 1 → Way (eqb (endA r i) v) → Way (eqb (endB r i) v) → Way (isTip r L (endA r i)) → Way (isTip r L (endB r i))
-          → map (λ (x : Bond). G (x .code) (x .v)) (filter (λ (x : Bond). eqb (x .u) v && isTip r L (x .v)) (bondOf r i ∷ turn (bondOf r i) ∷ [])) ≡ pick (isEnd r v i && hasTip r L i) (Y i ∷ []) []
+          → map (λ (x : Bond). G (x .code) (x .v)) (filter (λ (x : Bond). eqb (x .u) v && isTip r L (x .v)) (bondOf r i ∷ turn (bondOf r i) ∷ [])) ≡ pick
+          (endOf r v i && hasTip r L i) (Y i ∷ []) []
       each i n m (inl a) (inl b) c d = absurd (n (eqb-true (endA r i) v a ∙ sym (eqb-true (endB r i) v b)))
       each i n m (inl a) (inr b) (inl c) d = absurd (not-both c (ap (isTip r L) (eqb-true (endA r i) v a) ∙ stays))
       each i n m (inl a) (inr b) (inr c) (inl d) = rw (a, b, c, d) (ap (λ (y : C). y ∷ []) (sym (rw c at (h i (outer-has r L i own m (rw (c, d)))))))
@@ -320,7 +333,7 @@ module _ {r : Bytes} {s L : ℕ} {X : ℕ → Bytes} {z : Peel} (formed : Formed
     tree = round-tree (z .present) (z .left) (p .tree) (more-left p many);
     own = own;
     trees = treeRound (element r) (p .trees);
-    held = round-held (fragment r s) (p .trees) (p .clean) (p .held) (ap more (p .says .present) ∙ more-left p many);
+    held = round-hanging (fragment r s) (p .trees) (p .clean) (p .held) (ap more (p .says .present) ∙ more-left p many);
     says = round-says (element r) (p .trees) z (p .says);
     rest = λ f h.
         let l : length (round z .present) < length (z .present) = round-shorter (z .present) (z .left) (p .tree) (more-left p many) in
@@ -383,10 +396,6 @@ module _ {r : Bytes} {s L : ℕ} {X : ℕ → Bytes} {z : Peel} (formed : Formed
   string-fits i h = omega (arith, short p (tip r L i) (tip-present p i h), size-le (bonds r) s own-s, formed .sized .few)
 
 -- ---- the end: one atom is left, or two
-
-only : {A : Type 0} (l : List A) {x : A} → length l ≡ 1 → Mem x l → l ≡ x ∷ []
-only (y ∷ []) e (m-head h) = ap (λ z. z ∷ []) (sym h)
-only (y ∷ z ∷ l) e m = absurd (omega arith)
 
 two-are : (ns : List ℕ) (z : Peel) → length ns ≡ 2 → finish ns z ≡ twoLeft (z .left) z
 two-are [] z e = absurd (omega arith)

@@ -1,8 +1,30 @@
-// Labels as values: equal, less, and a hash.
+// Byte strings as values: their order, whether they are equal, and a hash.
 ghost use mathlib.Core.Path.{_≡_};
-ghost use mathlib.Core.Bool.{not};
 ghost use Rattle.canonize.specs.Strings.{lexLe, same, hash};
-use crate::strings;
+
+// x comes before y in lexicographic order, or is equal to it.
+pub fn less_or_equal(x: &[u8], y: &[u8]) -> bool
+    ensures { λ r. ⌜ r ≡ lexLe (now (x .entry)) (now (y .entry)) ⌝ }
+{
+    let mut i = 0;
+    loop {
+        if i == x.len() {
+            return true;
+        }
+        if i == y.len() {
+            return false;
+        }
+        let a = x[i];
+        let b = y[i];
+        if a < b {
+            return true;
+        }
+        if b < a {
+            return false;
+        }
+        i += 1;
+    }
+}
 
 // x and y are equal.
 pub fn equal(x: &[u8], y: &[u8]) -> bool
@@ -19,13 +41,6 @@ pub fn equal(x: &[u8], y: &[u8]) -> bool
         i += 1;
     }
     true
-}
-
-// x comes before y.
-pub fn less(x: &[u8], y: &[u8]) -> bool
-    ensures { λ r. ⌜ r ≡ not (lexLe (now (y .entry)) (now (x .entry))) ⌝ }
-{
-    !strings::less_or_equal(y, x)
 }
 
 // A number that equal strings share.

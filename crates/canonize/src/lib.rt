@@ -7,7 +7,8 @@ ghost use Rattle.molecule.specs.Touch.{bondsAtWords};
 ghost use Rattle.molecule.specs.Connected.{Own, Connected};
 ghost use Rattle.molecule.specs.Check.{check, accepted};
 ghost use Rattle.canonize.specs.Label.{label};
-ghost use Rattle.canonize.specs.Buffers.{Slots, Wrote};
+ghost use Rattle.canonize.specs.Inner.Slate.{Slate, Labels};
+ghost use Rattle.canonize.specs.Inner.Places.{Wrote};
 ghost use Rattle.canonize.specs.Answer.{badSet, labelAnswer, bufferAfter, answerOf};
 use molecule::Fault;
 use molecule::Verdict;
@@ -16,7 +17,8 @@ use molecule::graph;
 
 pub mod compare;
 mod peel;
-pub mod strings;
+pub mod slate;
+mod strings;
 
 // What label answers: the label's length, or why the record, the set or the buffer is turned back.
 pub enum Labelled {
@@ -24,45 +26,6 @@ pub enum Labelled {
     Record(Fault),
     Set,
     Buffer,
-}
-
-// The label of a connected set s of an accepted record goes to the front of out, and the answer is its length. What the slots and the
-// desk hold at entry does not matter, and nothing is said of what they hold at exit but that they are slots again.
-pub fn label_into(
-    bytes: &[u8],
-    at: &[u64; 65],
-    s: u64,
-    arena: &mut [u8],
-    lengths: &mut [usize],
-    desk: &mut [u8],
-    out: &mut [u8],
-) -> usize
-    requires { ⌜ (check (now bytes) ≡ accepted) × (now at ≡ bondsAtWords (now bytes)) × Own (now bytes) s × Connected (now bytes) s
-        × Slots (now arena) (now lengths) × (384 ≤ length (now desk)) × (389 ≤ length (now out)) ⌝ }
-    ensures label { λ r. ⌜ Wrote (now (out .entry)) 0 (label (now (bytes .entry)) s) r (now (out .exit)) ⌝ }
-    ensures slots { λ r. ⌜ Slots (now (arena .exit)) (now (lengths .exit)) ⌝ }
-{
-    let mut left = s;
-    let mut centre = 0;
-    while 1 < bitset::size(left) {
-        let taken = peel::round(bytes, at, s, left, arena, lengths, desk);
-        centre = peel::far_end(bytes, at, left, bitset::lowest(left));
-        left = bitset::difference(left, taken);
-    }
-    if left == 0 {
-        return peel::put_atom(bytes, at, s, left, centre, arena, lengths, out, 0);
-    }
-    peel::put_centres(
-        bytes,
-        at,
-        s,
-        left,
-        bitset::lowest(left),
-        arena,
-        lengths,
-        desk,
-        out,
-    )
 }
 
 // Whether the set is a fragment of an accepted record: not empty, of its bonds, and connected.
@@ -80,6 +43,18 @@ fn is_fragment(bytes: &[u8], at: &[u64; 65], set: u64) -> bool
     graph::is_connected(&touch, set)
 }
 
+// The label of set is kept, and goes to the front of out; the answer is its length.
+fn label_out(bytes: &[u8], at: &[u64; 65], set: u64, page: &mut [u8], out: &mut [u8]) -> usize
+    requires { ⌜ Labels (now bytes) (now at) set × Slate (now page) × (389 ≤ length (now out)) ⌝ }
+    ensures { λ r. ⌜ Wrote (now (out .entry)) 0 (label (now (bytes .entry)) set) r (now (out .exit)) ⌝ }
+{
+    slate::keep(bytes, at, set, page);
+    let n = strings::slot_length(page, 64);
+    let from = strings::start(64);
+    strings::put(out, &page[from..from + n]);
+    n
+}
+
 // label of an accepted record.
 fn label_accepted(bytes: &[u8], set: u64, out: &mut [u8]) -> Labelled
     requires { ⌜ check (now bytes) ≡ accepted ⌝ }
@@ -93,10 +68,8 @@ fn label_accepted(bytes: &[u8], set: u64, out: &mut [u8]) -> Labelled
     if out.len() < 389 {
         return Labelled::Buffer;
     }
-    let mut arena = [0u8; 24576];
-    let mut lengths = [0usize; 64];
-    let mut desk = [0u8; 384];
-    Labelled::Length(label_into(bytes, &at, set, &mut arena, &mut lengths, &mut desk, out))
+    let mut page = slate::blank();
+    Labelled::Length(label_out(bytes, &at, set, &mut page, out))
 }
 
 // The label of a set of bonds of a record, at the front of the buffer.

@@ -1,27 +1,20 @@
-// Peeling a fragment by words: the set of the bonds left, and a slot for the string that each bond taken off handed over.
+// Peeling a fragment by words: the set of the bonds left, and in a slot of its own the string that each bond taken off handed over.
 ghost use mathlib.Core.Path.{_≡_};
 ghost use mathlib.Core.List.{[], _∷_};
-ghost use Prim.Native.Nat.{_+_, _≤_, _<_};
-ghost use lib.ListN.{length};
+ghost use Prim.Native.Nat.{_+_, _-_, _^_, _≤_, _<_};
+ghost use lib.ListN.{length, take, drop};
+ghost use Rattle.bitset.specs.Bits.{bit};
 ghost use Rattle.molecule.specs.Record.{atoms, bonds};
 ghost use Rattle.molecule.specs.Touch.{bondsAtWords};
 ghost use Rattle.molecule.specs.Connected.{Own};
 ghost use Rattle.molecule.specs.Tree.{Formed};
 ghost use Rattle.canonize.specs.Strings.{collapse};
-ghost use Rattle.canonize.specs.Buffers.{slot, Slots, Wrote};
-ghost use Rattle.canonize.specs.Words.{isTip, outer, far, stringsAt, handed, centres, Stored, Fits, Round};
+ghost use Rattle.canonize.specs.Inner.Slate.{slot, Slate};
+ghost use Rattle.canonize.specs.Inner.Places.{Wrote, Room, Placed, LabelAt};
+ghost use Rattle.canonize.specs.Inner.Words.{isTip, outer, far, received, stringsAt, handed, centres, Fits, Round};
+use crate::compare;
 use crate::strings;
 use molecule::fields;
-
-// Makes x the string of slot i.
-fn store(arena: &mut [u8], lengths: &mut [usize], i: u32, x: &[u8])
-    requires { ⌜ Slots (now arena) (now lengths) × (i < 64) × (length (now x) ≤ 384) ⌝ }
-    ensures { λ _. ⌜ Stored (now (arena .entry)) (now (lengths .entry)) i (now (x .entry)) (now (arena .exit)) (now (lengths .exit)) ⌝ }
-{
-    let k = i as usize;
-    strings::put(arena, 384 * k, x);
-    lengths[k] = x.len();
-}
 
 // Whether atom v has one bond of left.
 fn is_tip(bytes: &[u8], at: &[u64; 65], left: u64, v: usize) -> bool
@@ -36,59 +29,41 @@ fn is_tip(bytes: &[u8], at: &[u64; 65], left: u64, v: usize) -> bool
 }
 
 // Puts the collapsed strings of atom v.
-pub fn put_atom(
+fn put_atom(
     bytes: &[u8],
     at: &[u64; 65],
     s: u64,
     left: u64,
     v: usize,
-    arena: &[u8],
-    lengths: &[usize],
-    out: &mut [u8],
+    slate: &mut [u8],
     place: usize,
 ) -> usize
-    requires { ⌜ Formed (now bytes) × (now at ≡ bondsAtWords (now bytes)) × (v < atoms (now bytes)) × Slots (now arena) (now lengths)
-        × (place + length (collapse (stringsAt (now bytes) s left (slot (now arena) (now lengths)) v)) ≤ length (now out)) ⌝ }
-    ensures { λ r. ⌜ Wrote (now (out .entry)) place (collapse (stringsAt (now (bytes .entry)) s left (slot (now (arena .entry)) (now (lengths .entry))) v)) r (now (out .exit)) ⌝ }
+    requires { ⌜ Formed (now bytes) × (now at ≡ bondsAtWords (now bytes)) × (v < atoms (now bytes)) × Slate (now slate)
+        × Room (received (now bytes) s left v) place (length (collapse (stringsAt (now bytes) s left (slot (now slate)) v))) ⌝ }
+    ensures { λ r. ⌜ Wrote (now (slate .entry)) place (collapse (stringsAt (now (bytes .entry)) s left (slot (now (slate .entry))) v)) r (now (slate .exit)) ⌝ }
 {
     let set = bitset::difference(bitset::common(at[v], s), left);
-    strings::put_collapsed(arena, lengths, set, fields::element(bytes, v), out, place)
+    strings::put_collapsed(slate, set, fields::element(bytes, v), place)
 }
 
-// Bond i hands over from its end v: its bond code and the collapsed strings of v are the string of slot i.
-fn hand_over(
-    bytes: &[u8],
-    at: &[u64; 65],
-    s: u64,
-    left: u64,
-    i: u32,
-    v: usize,
-    arena: &mut [u8],
-    lengths: &mut [usize],
-    desk: &mut [u8],
-)
-    requires { ⌜ Formed (now bytes) × (now at ≡ bondsAtWords (now bytes)) × (i < bonds (now bytes)) × (v < atoms (now bytes)) × Slots (now arena) (now lengths)
-        × (384 ≤ length (now desk)) × (length (handed (now bytes) s left (slot (now arena) (now lengths)) i v) ≤ 384) ⌝ }
-    ensures { λ _. ⌜ Stored (now (arena .entry)) (now (lengths .entry)) i (handed (now (bytes .entry)) s left (slot (now (arena .entry)) (now (lengths .entry))) i v) (now (arena .exit)) (now (lengths .exit)) ⌝ }
+// Bond i of left hands over from its end v: its bond code and the collapsed strings of v become the string of slot i.
+fn hand_over(bytes: &[u8], at: &[u64; 65], s: u64, left: u64, i: u32, v: usize, slate: &mut [u8])
+    requires { ⌜ Formed (now bytes) × (now at ≡ bondsAtWords (now bytes)) × (i < bonds (now bytes)) × (v < atoms (now bytes)) × Slate (now slate)
+        × (bit left i ≡ 1) × (length (handed (now bytes) s left (slot (now slate)) i v) ≤ 389) ⌝ }
+    ensures { λ _. ⌜ Placed (now (slate .entry)) i (handed (now (bytes .entry)) s left (slot (now (slate .entry))) i v) (now (slate .exit)) ⌝ }
 {
-    desk[0] = fields::code(bytes, i as usize);
-    let end = put_atom(bytes, at, s, left, v, arena, lengths, desk, 1);
-    store(arena, lengths, i, &desk[0..end]);
+    let k = i as usize;
+    let start = strings::start(k);
+    slate[start] = fields::code(bytes, k);
+    let end = put_atom(bytes, at, s, left, v, slate, start + 1);
+    strings::set_length(slate, k, end - start);
 }
 
 // A round: the bonds of left that have an end atom hand over, and are the answer.
-pub fn round(
-    bytes: &[u8],
-    at: &[u64; 65],
-    s: u64,
-    left: u64,
-    arena: &mut [u8],
-    lengths: &mut [usize],
-    desk: &mut [u8],
-) -> u64
-    requires { ⌜ Formed (now bytes) × (now at ≡ bondsAtWords (now bytes)) × Own (now bytes) left × Slots (now arena) (now lengths)
-        × (384 ≤ length (now desk)) × Fits (now bytes) s left (slot (now arena) (now lengths)) ⌝ }
-    ensures { λ r. ⌜ (r ≡ outer (now (bytes .entry)) left) × Round (now (bytes .entry)) s left (now (arena .entry)) (now (lengths .entry)) (now (arena .exit)) (now (lengths .exit)) ⌝ }
+pub fn round(bytes: &[u8], at: &[u64; 65], s: u64, left: u64, slate: &mut [u8]) -> u64
+    requires { ⌜ Formed (now bytes) × (now at ≡ bondsAtWords (now bytes)) × Own (now bytes) left × Slate (now slate)
+        × Fits (now bytes) s left (slot (now slate)) ⌝ }
+    ensures { λ r. ⌜ (r ≡ outer (now (bytes .entry)) left) × Round (now (bytes .entry)) s left (now (slate .entry)) (now (slate .exit)) ⌝ }
 {
     let mut rest = left;
     let mut taken = 0;
@@ -97,13 +72,13 @@ pub fn round(
         rest = bitset::without_lowest(rest);
         let u = fields::end_a(bytes, i as usize);
         if is_tip(bytes, at, left, u) {
-            hand_over(bytes, at, s, left, i, u, arena, lengths, desk);
+            hand_over(bytes, at, s, left, i, u, slate);
             taken = bitset::insert(taken, i);
             continue;
         }
         let v = fields::end_b(bytes, i as usize);
         if is_tip(bytes, at, left, v) {
-            hand_over(bytes, at, s, left, i, v, arena, lengths, desk);
+            hand_over(bytes, at, s, left, i, v, slate);
             taken = bitset::insert(taken, i);
             continue;
         }
@@ -124,57 +99,62 @@ pub fn far_end(bytes: &[u8], at: &[u64; 65], left: u64, i: u32) -> usize
     u
 }
 
-// Puts two collapsed strings, wrapped, the smaller first.
-fn put_two(x: &[u8], y: &[u8], out: &mut [u8], place: usize) -> usize
-    requires { ⌜ place + length (collapse (now x ∷ now y ∷ [])) ≤ length (now out) ⌝ }
-    ensures { λ r. ⌜ Wrote (now (out .entry)) place (collapse (now (x .entry) ∷ now (y .entry) ∷ [])) r (now (out .exit)) ⌝ }
+// One atom left, v: its collapsed strings become the string of slot k.
+pub fn put_centre(
+    bytes: &[u8],
+    at: &[u64; 65],
+    s: u64,
+    left: u64,
+    v: usize,
+    slate: &mut [u8],
+    k: usize,
+)
+    requires { ⌜ Formed (now bytes) × (now at ≡ bondsAtWords (now bytes)) × (v < atoms (now bytes)) × Slate (now slate) × (64 ≤ k) × (k < 66)
+        × (length (collapse (stringsAt (now bytes) s left (slot (now slate)) v)) ≤ 389) ⌝ }
+    ensures { λ _. ⌜ LabelAt (now (slate .entry)) k (collapse (stringsAt (now (bytes .entry)) s left (slot (now (slate .entry))) v)) (now (slate .exit)) ⌝ }
 {
-    if strings::less_or_equal(x, y) {
-        let middle = strings::put_wrapped(out, place, x);
-        return strings::put_wrapped(out, middle, y);
-    }
-    let middle = strings::put_wrapped(out, place, y);
-    strings::put_wrapped(out, middle, x)
+    let start = strings::start(k);
+    let end = put_atom(bytes, at, s, left, v, slate, start);
+    strings::set_length(slate, k, end - start);
 }
 
-// Two atoms left, the ends of bond i: its bond code, and their collapsed strings, wrapped, the smaller first.
+// Puts two strings, wrapped, the smaller first: the bytes up to middle, and those from there to end.
+fn put_two(slate: &mut [u8], from: usize, middle: usize, end: usize, place: usize) -> usize
+    requires { ⌜ (from ≤ middle) × (middle ≤ end) × (end ≤ place) × (place + (end - from + 4) ≤ length (now slate)) ⌝ }
+    ensures { λ r. ⌜ Wrote (now (slate .entry)) place
+        (collapse (take (middle - from) (drop from (now (slate .entry))) ∷ take (end - middle) (drop middle (now (slate .entry))) ∷ [])) r (now (slate .exit)) ⌝ }
+{
+    let n = middle - from;
+    let m = end - middle;
+    if compare::less_or_equal(&slate[from..middle], &slate[middle..end]) {
+        let next = strings::put_wrapped(slate, from, n, place);
+        return strings::put_wrapped(slate, middle, m, next);
+    }
+    let next = strings::put_wrapped(slate, middle, m, place);
+    strings::put_wrapped(slate, from, n, next)
+}
+
+// Two atoms left, the ends of bond i: its bond code, and their collapsed strings, wrapped, the smaller first, become the string of slot k.
+// Those strings are put into the slot of bond i first, which has handed over nothing.
 pub fn put_centres(
     bytes: &[u8],
     at: &[u64; 65],
     s: u64,
     left: u64,
     i: u32,
-    arena: &[u8],
-    lengths: &[usize],
-    desk: &mut [u8],
-    out: &mut [u8],
-) -> usize
-    requires { ⌜ Formed (now bytes) × (now at ≡ bondsAtWords (now bytes)) × (i < bonds (now bytes)) × Slots (now arena) (now lengths) × (384 ≤ length (now desk))
-        × (length (centres (now bytes) s left (slot (now arena) (now lengths)) i) ≤ 389) × (389 ≤ length (now out)) ⌝ }
-    ensures { λ r. ⌜ Wrote (now (out .entry)) 0 (centres (now (bytes .entry)) s left (slot (now (arena .entry)) (now (lengths .entry))) i) r (now (out .exit)) ⌝ }
+    slate: &mut [u8],
+    k: usize,
+)
+    requires { ⌜ Formed (now bytes) × (now at ≡ bondsAtWords (now bytes)) × (i < bonds (now bytes)) × Slate (now slate) × (64 ≤ k) × (k < 66)
+        × (bit left i ≡ 1) × (length (centres (now bytes) s left (slot (now slate)) i) ≤ 389) ⌝ }
+    ensures { λ _. ⌜ LabelAt (now (slate .entry)) k (centres (now (bytes .entry)) s left (slot (now (slate .entry))) i) (now (slate .exit)) ⌝ }
 {
-    out[0] = fields::code(bytes, i as usize);
-    let middle = put_atom(
-        bytes,
-        at,
-        s,
-        left,
-        fields::end_a(bytes, i as usize),
-        arena,
-        lengths,
-        desk,
-        0,
-    );
-    let end = put_atom(
-        bytes,
-        at,
-        s,
-        left,
-        fields::end_b(bytes, i as usize),
-        arena,
-        lengths,
-        desk,
-        middle,
-    );
-    put_two(&desk[0..middle], &desk[middle..end], out, 1)
+    let b = i as usize;
+    let from = strings::start(b);
+    let middle = put_atom(bytes, at, s, left, fields::end_a(bytes, b), slate, from);
+    let end = put_atom(bytes, at, s, left, fields::end_b(bytes, b), slate, middle);
+    let start = strings::start(k);
+    slate[start] = fields::code(bytes, b);
+    let last = put_two(slate, from, middle, end, start + 1);
+    strings::set_length(slate, k, last - start);
 }

@@ -1,3 +1,2 @@
 -- The theory of the C replies.
-pub mod Fewer
 pub mod Replying

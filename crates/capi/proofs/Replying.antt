@@ -16,7 +16,7 @@ use Rattle.assembly.specs.declared.answer.Scored.the-variants as says
 use Rattle.assembly.specs.Answer.{answerOf}
 use Rattle.assembly.specs.Demand.{Demand3}
 use Rattle.capi.specs.Reply.{turned, replyOf, Replies}
-use Rattle.capi.proofs.Fewer.{scored-length}
+use Rattle.search.proofs.Score.{scored-length}
 
 -- a row
 turned-replies : (number place : ℕ) → Replies (turned number place) (turnedBack number place)

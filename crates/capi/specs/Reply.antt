@@ -1,10 +1,13 @@
 -- score's answer in the fields of the C reply.
 use mathlib.Core.Path.{_≡_}
 use Prim.Native.Nat.{ℕ}
-use lib.ListN.{length}
+use lib.ListN.{length, take}
+use Rattle.molecule.specs.Lists.{Bytes}
 use Rattle.molecule.specs.Verdict.{numberOf, placeOf}
 use Rattle.search.specs.Setting.{Setting}
 use Rattle.search.specs.Answer.{ScoreAnswer, scored, turnedBack}
+use Rattle.assembly.specs.Answer.{Loan, answerTo, Leaves}
+use Rattle.assembly.specs.Demand.{Demand3}
 use Rattle.assembly.specs.declared.answer.Scored.{Scored}
 use Rattle.assembly.specs.declared.answer.Scored.the-variants as says
 use Rattle.capi.specs.declared.ScoreReply.{ScoreReply}
@@ -47,6 +50,12 @@ pub record Replies (reply : ScoreReply) (a : ScoreAnswer) : Type 0 where
   pub matches : reply .matches ≡ matchesOf a
   pub states : reply .states ≡ statesOf a
   pub removals : reply .length ≡ lengthOf a
+
+-- score's contract in these fields: the answer is document 01's, what was lent is now as document 01 says, and of a score demand 3 holds
+pub record Answered (r : Bytes) (setting : Setting) (lent now : Loan) (reply : ScoreReply) : Type 0 where
+  pub answer : Replies reply (answerTo r setting lent)
+  pub leaves : Leaves (answerTo r setting lent) lent now
+  pub demand3 : reply .number ≡ 0 → Demand3 r (setting .memo) (setting .budget) (reply .index) (reply .states) (take (reply .length) (now .trail))
 
 -- a row as a reply
 abbrev pub turned : ℕ → ℕ → ScoreReply

@@ -3,18 +3,16 @@ ghost use mathlib.Core.Path.{_≡_};
 ghost use Rattle.molecule.specs.Check.{check, number, place};
 ghost use Rattle.molecule.specs.Verdict.{numberOf, placeOf};
 ghost use Rattle.canonize.specs.Answer.{number as labelNumber, value as labelValue, labelAnswer, bufferAfter};
-ghost use lib.ListN.{length, take};
+ghost use lib.ListN.{length};
 ghost use Rattle.tabulate.specs.Counted.{number as countNumber, value as countValue, countAnswer, tableAfter};
-ghost use Rattle.search.specs.Answer.{scoreAnswer, trailAfter, tableAfter as scoreTableAfter};
-ghost use Rattle.assembly.specs.Answer.{roomOf};
-ghost use Rattle.assembly.specs.Demand.{Demand3};
-ghost use Rattle.capi.specs.Reply.{asked, turned, replyOf, Replies};
+ghost use Rattle.assembly.specs.Answer.{loan};
+ghost use Rattle.capi.specs.Reply.{asked, turned, replyOf, Answered};
+use assembly::Setting;
 use assembly::answer::Scored;
 use assembly::score;
 use canonize::Labelled;
 use molecule::Fault;
 use molecule::Verdict;
-use recurse::visit::Setting;
 use tabulate::count::Counted;
 
 // Document 01's number, 0 where there is no refusal, and its place, or for a label its length, for matches how many there are.
@@ -58,7 +56,8 @@ pub extern "C" fn assembly_check(bytes: &[u8]) -> Reply
 // label.
 #[no_mangle]
 pub extern "C" fn assembly_label(bytes: &[u8], set: u64, out: &mut [u8]) -> Reply
-    ensures answer { λ r. ⌜ (r .number ≡ labelNumber (labelAnswer (now (bytes .entry)) set (now (out .entry)))) × (r .place ≡ labelValue (labelAnswer (now (bytes .entry)) set (now (out .entry)))) ⌝ }
+    ensures answer { λ r. ⌜ (r .number ≡ labelNumber (labelAnswer (now (bytes .entry)) set (now (out .entry))))
+        × (r .place ≡ labelValue (labelAnswer (now (bytes .entry)) set (now (out .entry)))) ⌝ }
     ensures buffer { λ r. ⌜ now (out .exit) ≡ bufferAfter (now (bytes .entry)) set (now (out .entry)) ⌝ }
 {
     match canonize::label(bytes, set, out) {
@@ -78,7 +77,8 @@ pub extern "C" fn assembly_label(bytes: &[u8], set: u64, out: &mut [u8]) -> Repl
 // matches.
 #[no_mangle]
 pub extern "C" fn assembly_matches(bytes: &[u8], parts: &mut [u64], pairs: &mut [u64]) -> Reply
-    ensures answer { λ r. ⌜ (r .number ≡ countNumber (countAnswer (now (bytes .entry)) (length (now (parts .entry))) (length (now (pairs .entry))))) × (r .place ≡ countValue (countAnswer (now (bytes .entry)) (length (now (parts .entry))) (length (now (pairs .entry))))) ⌝ }
+    ensures answer { λ r. ⌜ (r .number ≡ countNumber (countAnswer (now (bytes .entry)) (length (now (parts .entry))) (length (now (pairs .entry)))))
+        × (r .place ≡ countValue (countAnswer (now (bytes .entry)) (length (now (parts .entry))) (length (now (pairs .entry))))) ⌝ }
     ensures parts { λ r. ⌜ now (parts .exit) ≡ tableAfter (now (bytes .entry)) (now (parts .entry)) ⌝ }
     ensures pairs { λ r. ⌜ now (pairs .exit) ≡ tableAfter (now (bytes .entry)) (now (pairs .entry)) ⌝ }
 {
@@ -96,7 +96,8 @@ pub extern "C" fn assembly_matches(bytes: &[u8], parts: &mut [u64], pairs: &mut 
     }
 }
 
-// score's answer. Number 0: the index, the matches, the states entered, and how many removals the trail has; place is 0. Else the row and its place; the other four are 0.
+// score's answer. Number 0: the index, the matches, the states entered, and how many removals the trail has; place is 0. Else the row and its place;
+// the other four are 0.
 #[repr(C)]
 pub struct ScoreReply {
     pub number: u32,
@@ -157,13 +158,9 @@ pub extern "C" fn assembly_score(
     entries: &mut [u64],
     desk: &mut [u64],
 ) -> ScoreReply
-    ensures answer { λ r. ⌜ Replies r (scoreAnswer (now (bytes .entry)) (asked bounds memo budget) (roomOf (now (trail .entry)) (now (parts .entry)) (now (pairs .entry)) (now (entries .entry)) (now (desk .entry)))) ⌝ }
-    ensures trail { λ r. ⌜ now (trail .exit) ≡ trailAfter (scoreAnswer (now (bytes .entry)) (asked bounds memo budget) (roomOf (now (trail .entry)) (now (parts .entry)) (now (pairs .entry)) (now (entries .entry)) (now (desk .entry)))) (now (trail .entry)) ⌝ }
-    ensures parts { λ r. ⌜ now (parts .exit) ≡ scoreTableAfter (scoreAnswer (now (bytes .entry)) (asked bounds memo budget) (roomOf (now (trail .entry)) (now (parts .entry)) (now (pairs .entry)) (now (entries .entry)) (now (desk .entry)))) (now (parts .entry)) ⌝ }
-    ensures pairs { λ r. ⌜ now (pairs .exit) ≡ scoreTableAfter (scoreAnswer (now (bytes .entry)) (asked bounds memo budget) (roomOf (now (trail .entry)) (now (parts .entry)) (now (pairs .entry)) (now (entries .entry)) (now (desk .entry)))) (now (pairs .entry)) ⌝ }
-    ensures entries { λ r. ⌜ now (entries .exit) ≡ scoreTableAfter (scoreAnswer (now (bytes .entry)) (asked bounds memo budget) (roomOf (now (trail .entry)) (now (parts .entry)) (now (pairs .entry)) (now (entries .entry)) (now (desk .entry)))) (now (entries .entry)) ⌝ }
-    ensures desk { λ r. ⌜ now (desk .exit) ≡ scoreTableAfter (scoreAnswer (now (bytes .entry)) (asked bounds memo budget) (roomOf (now (trail .entry)) (now (parts .entry)) (now (pairs .entry)) (now (entries .entry)) (now (desk .entry)))) (now (desk .entry)) ⌝ }
-    ensures demand3 { λ r. ⌜ (r .number ≡ 0 → Demand3 (now (bytes .entry)) memo budget (r .index) (r .states) (take (r .length) (now (trail .exit)))) ⌝ }
+    ensures { λ r. ⌜ Answered (now (bytes .entry)) (asked bounds memo budget)
+        (loan (now (trail .entry)) (now (parts .entry)) (now (pairs .entry)) (now (entries .entry)) (now (desk .entry)))
+        (loan (now (trail .exit)) (now (parts .exit)) (now (pairs .exit)) (now (entries .exit)) (now (desk .exit))) r ⌝ }
 {
     let setting = Setting {
         bounds,

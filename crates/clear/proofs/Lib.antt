@@ -1,1 +1,2 @@
+pub mod Part
 mod Zeros

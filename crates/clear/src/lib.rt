@@ -1,6 +1,8 @@
 // Lent words and numbers left with zeros.
 ghost use mathlib.Core.Path.{_≡_};
+ghost use Prim.Native.Nat.{_≤_};
 ghost use lib.ListN.{length, replicate};
+ghost use Rattle.clear.specs.Inner.Part.{zeroPart};
 
 // Every word becomes 0.
 pub fn zero(words: &mut [u64])
@@ -11,6 +13,14 @@ pub fn zero(words: &mut [u64])
         words[i] = 0;
         i += 1;
     }
+}
+
+// The words from .. to become 0.
+pub fn zero_part(words: &mut [u64], from: usize, to: usize)
+    requires { ⌜ (from ≤ to) × (to ≤ length (now words)) ⌝ }
+    ensures { λ r. ⌜ now (words .exit) ≡ zeroPart (now (words .entry)) from to ⌝ }
+{
+    zero(&mut words[from..to]);
 }
 
 // Every number becomes 0.

@@ -11,11 +11,16 @@ use Rattle.molecule.specs.Lists.{Bytes}
 use Rattle.molecule.specs.Connected.{Own, Connected}
 use Rattle.canonize.specs.Strings.{hash}
 use Rattle.canonize.specs.Label.{label}
-use Rattle.desk.specs.Cached.{Stands, Cached}
+use Rattle.desk.specs.Inner.Cached.{Stands, Cached}
 
 -- a desk of zeros says nothing
 pub cached-none : (r : Bytes) (desk : List ℕ) → 4096 ≤ length desk → ((i : ℕ) → getD desk i 0 ≡ 0) → Cached r desk
-cached-none r desk w z = record { wide = w; hashes = λ i h n. absurd (n (z (3 * i))); stands = λ i h n. absurd (n (z (3 * i))); kept = λ i h n. absurd (n (z (3072 + i))) }
+cached-none r desk w z = record {
+  wide = w;
+  hashes = λ i h n. absurd (n (z (3 * i)));
+  stands = λ i h n. absurd (n (z (3 * i)));
+  kept = λ i h n. absurd (n (z (3072 + i)));
+}
 
 -- a fragment stands for itself
 pub stands-self : {r : Bytes} {x : ℕ} → Own r x → Connected r x → Stands r x x
@@ -31,10 +36,15 @@ module _ (l : List ℕ) (a x v y : ℕ) where
   three-length = length-set (set (set l a x) (a + 1) v) (a + 2) y ∙ length-set (set l a x) (a + 1) v ∙ length-set l a x
 
   three-first : a < length l → getD threeSet a 0 ≡ x
-  three-first h = getD-set-other (set (set l a x) (a + 1) v) (a + 2) a y 0 (λ e. omega arith) ∙ getD-set-other (set l a x) (a + 1) a v 0 (λ e. omega arith) ∙ getD-set-same l a x 0 h
+  three-first h =
+      getD-set-other (set (set l a x) (a + 1) v) (a + 2) a y 0 (λ e. omega arith)
+      ∙ getD-set-other (set l a x) (a + 1) a v 0 (λ e. omega arith)
+      ∙ getD-set-same l a x 0 h
 
   three-second : a + 1 < length l → getD threeSet (a + 1) 0 ≡ v
-  three-second h = getD-set-other (set (set l a x) (a + 1) v) (a + 2) (a + 1) y 0 (λ e. omega arith) ∙ getD-set-same (set l a x) (a + 1) v 0 (omega (arith, length-set l a x))
+  three-second h =
+      getD-set-other (set (set l a x) (a + 1) v) (a + 2) (a + 1) y 0 (λ e. omega arith)
+      ∙ getD-set-same (set l a x) (a + 1) v 0 (omega (arith, length-set l a x))
 
   three-third : a + 2 < length l → getD threeSet (a + 2) 0 ≡ y
   three-third h = getD-set-same (set (set l a x) (a + 1) v) (a + 2) y 0 (omega (arith, length-set (set l a x) (a + 1) v, length-set l a x))
@@ -44,14 +54,14 @@ module _ (l : List ℕ) (a x v y : ℕ) where
 
 -- ---- the slots
 
-module _ (r : Bytes) (desk : List ℕ) (k : Cached r desk) (i : ℕ) (h : i < 1024) (x : ℕ) where
+module _ {r : Bytes} {desk : List ℕ} (k : Cached r desk) (i : ℕ) (h : i < 1024) (x : ℕ) where
   pub cached-hash : Connected r x → getD desk (3 * i) 0 ≡ x → getD desk (3 * i + 1) 0 ≡ hash (label r x)
   cached-hash n e = k .hashes i h (λ z. n .some (sym e ∙ z)) ∙ ap (λ (y : ℕ). hash (label r y)) e
 
   pub cached-stands : Connected r x → getD desk (3 * i) 0 ≡ x → Stands r x (getD desk (3 * i + 2) 0)
   cached-stands n e = rw e at (k .stands i h (λ z. n .some (sym e ∙ z)))
 
-  module _ (v y : ℕ) (q : v ≡ hash (label r x)) (s : Stands r x y) where
+  module _ {v y : ℕ} (q : v ≡ hash (label r x)) (s : Stands r x y) where
     abbrev now : List ℕ
     now = threeSet desk (3 * i) x v y
 
@@ -65,7 +75,9 @@ module _ (r : Bytes) (desk : List ℕ) (k : Cached r desk) (i : ℕ) (h : i < 10
     hashes-of j g n (yes d) = rw d (three-second desk (3 * i) x v y (omega (arith, k .wide)) ∙ q ∙ ap (λ (z : ℕ). hash (label r z)) (sym first-is))
     hashes-of j g n (no d) =
         let a = elsewhere (3 * j) (λ u. d (omega arith)) (λ u. omega arith) (λ u. omega arith) in
-        elsewhere (3 * j + 1) (λ u. omega arith) (λ u. d (omega arith)) (λ u. omega arith) ∙ k .hashes j g (λ z. n (a ∙ z)) ∙ ap (λ (z : ℕ). hash (label r z)) (sym a)
+        elsewhere (3 * j + 1) (λ u. omega arith) (λ u. d (omega arith)) (λ u. omega arith)
+        ∙ k .hashes j g (λ z. n (a ∙ z))
+        ∙ ap (λ (z : ℕ). hash (label r z)) (sym a)
 
     stands-of : (j : ℕ) → j < 1024 → getD now (3 * j) 0 ≢ 0 → Dec (j ≡ i) → Stands r (getD now (3 * j) 0) (getD now (3 * j + 2) 0)
     stands-of j g n (yes d) = rw (d, first-is, three-third desk (3 * i) x v y (omega (arith, k .wide))) s
@@ -85,7 +97,7 @@ module _ (r : Bytes) (desk : List ℕ) (k : Cached r desk) (i : ℕ) (h : i < 10
 
 -- ---- the sets that stand for others
 
-module _ (r : Bytes) (desk : List ℕ) (k : Cached r desk) (i : ℕ) (h : i < 1024) (x : ℕ) (o : Own r x) (c : Connected r x) where
+module _ {r : Bytes} {desk : List ℕ} (k : Cached r desk) (i : ℕ) (h : i < 1024) (x : ℕ) (o : Own r x) (c : Connected r x) where
   abbrev keeps : List ℕ
   keeps = set desk (3072 + i) x
 

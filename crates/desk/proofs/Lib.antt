@@ -1,3 +1,2 @@
 -- The theory of the desk.
 pub mod Caching
-pub mod Lending

@@ -1,2 +1,2 @@
--- The desk as the lent words keep it.
-pub mod Cached
+-- What the desk's contracts speak of.
+pub mod Inner

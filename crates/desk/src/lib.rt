@@ -1,15 +1,11 @@
 // The desk: for a set of bonds the hash of its label and a set that stands for it, kept in lent words so that labels are not computed again.
 ghost use mathlib.Core.Path.{_≡_};
-ghost use Prim.Native.Nat.{_≤_, _<_};
-ghost use lib.ListN.{length};
-ghost use Rattle.molecule.specs.Touch.{bondsAtWords};
+ghost use Prim.Native.Nat.{_<_};
 ghost use Rattle.molecule.specs.Connected.{Own, Connected};
-ghost use Rattle.molecule.specs.Check.{check, accepted};
-ghost use Rattle.canonize.specs.Buffers.{Slots};
 ghost use Rattle.canonize.specs.Label.{label};
 ghost use Rattle.canonize.specs.Strings.{same, hash};
-ghost use Rattle.desk.specs.Cached.{Stands, Cached, Lent};
-use canonize::compare;
+ghost use Rattle.canonize.specs.Inner.Slate.{Slate, kept, Labels};
+ghost use Rattle.desk.specs.Inner.Cached.{Stands, Cached, Lent};
 
 // The hash of a set's label, and a set that stands for it.
 pub struct Known {
@@ -31,65 +27,22 @@ fn place(h: u64) -> usize
     (h % 1_024) as usize
 }
 
-// Whether the text is y's label.
-fn is_label(
-    bytes: &[u8],
-    at: &[u64; 65],
-    y: u64,
-    text: &[u8],
-    arena: &mut [u8],
-    lengths: &mut [usize],
-    scratch: &mut [u8],
-    other: &mut [u8],
-) -> bool
-    requires { ⌜ (check (now bytes) ≡ accepted) × (now at ≡ bondsAtWords (now bytes)) × Own (now bytes) y × Connected (now bytes) y
-        × Slots (now arena) (now lengths) × (384 ≤ length (now scratch)) × (389 ≤ length (now other)) ⌝ }
-    ensures same { λ r. ⌜ r ≡ same (now (text .entry)) (label (now (bytes .entry)) y) ⌝ }
-    ensures slots { λ r. ⌜ Slots (now (arena .exit)) (now (lengths .exit)) ⌝ }
-{
-    let n = canonize::label_into(bytes, at, y, arena, lengths, scratch, other);
-    compare::equal(text, &other[0..n])
-}
-
 // Whether x and y have one label.
-pub fn equal_labels(
-    bytes: &[u8],
-    at: &[u64; 65],
-    x: u64,
-    y: u64,
-    arena: &mut [u8],
-    lengths: &mut [usize],
-    scratch: &mut [u8],
-    own: &mut [u8],
-    other: &mut [u8],
-) -> bool
-    requires { ⌜ (check (now bytes) ≡ accepted) × (now at ≡ bondsAtWords (now bytes)) × Own (now bytes) x × Connected (now bytes) x × Own (now bytes) y × Connected (now bytes) y
-        × Slots (now arena) (now lengths) × (384 ≤ length (now scratch)) × (389 ≤ length (now own)) × (389 ≤ length (now other)) ⌝ }
+pub fn equal_labels(bytes: &[u8], at: &[u64; 65], x: u64, y: u64, slate: &mut [u8]) -> bool
+    requires { ⌜ Labels (now bytes) (now at) x × Labels (now bytes) (now at) y × Slate (now slate) ⌝ }
     ensures same { λ r. ⌜ r ≡ same (label (now (bytes .entry)) x) (label (now (bytes .entry)) y) ⌝ }
-    ensures slots { λ r. ⌜ Slots (now (arena .exit)) (now (lengths .exit)) ⌝ }
+    ensures slate { λ r. ⌜ Slate (now (slate .exit)) ⌝ }
 {
-    let n = canonize::label_into(bytes, at, x, arena, lengths, scratch, own);
-    is_label(bytes, at, y, &own[0..n], arena, lengths, scratch, other)
+    canonize::slate::keep(bytes, at, x, slate);
+    canonize::slate::is_kept(bytes, at, y, slate)
 }
 
-// A set that stands for x, whose label is the text with hash h: the one kept for h if it has that label, or else x, which is then kept.
-fn choose(
-    bytes: &[u8],
-    at: &[u64; 65],
-    x: u64,
-    text: &[u8],
-    h: u64,
-    desk: &mut [u64],
-    arena: &mut [u8],
-    lengths: &mut [usize],
-    scratch: &mut [u8],
-    other: &mut [u8],
-) -> u64
-    requires { ⌜ Lent (now bytes) (now at) (now desk) (now arena) (now lengths) (now scratch) (now other) × Own (now bytes) x × Connected (now bytes) x
-        × (now text ≡ label (now bytes) x) ⌝ }
+// A set that stands for x, whose label is kept and has hash h: the desk's set for h if it has that label, or else x, which the desk then has for h.
+fn choose(bytes: &[u8], at: &[u64; 65], x: u64, h: u64, desk: &mut [u64], slate: &mut [u8]) -> u64
+    requires { ⌜ Lent (now bytes) (now at) (now desk) (now slate) × Own (now bytes) x × Connected (now bytes) x × (kept (now slate) ≡ label (now bytes) x) ⌝ }
     ensures stands { λ r. ⌜ Stands (now (bytes .entry)) x r ⌝ }
     ensures cached { λ r. ⌜ Cached (now (bytes .entry)) (now (desk .exit)) ⌝ }
-    ensures slots { λ r. ⌜ Slots (now (arena .exit)) (now (lengths .exit)) ⌝ }
+    ensures slate { λ r. ⌜ Slate (now (slate .exit)) ⌝ }
 {
     let k = 3_072 + place(h);
     let y = desk[k];
@@ -97,7 +50,7 @@ fn choose(
         desk[k] = x;
         return x;
     }
-    if is_label(bytes, at, y, text, arena, lengths, scratch, other) {
+    if canonize::slate::is_kept(bytes, at, y, slate) {
         return y;
     }
     desk[k] = x;
@@ -105,55 +58,24 @@ fn choose(
 }
 
 // What is known of x, with its label computed.
-fn learn(
-    bytes: &[u8],
-    at: &[u64; 65],
-    x: u64,
-    desk: &mut [u64],
-    arena: &mut [u8],
-    lengths: &mut [usize],
-    scratch: &mut [u8],
-    own: &mut [u8],
-    other: &mut [u8],
-) -> Known
-    requires { ⌜ Lent (now bytes) (now at) (now desk) (now arena) (now lengths) (now scratch) (now own) × (389 ≤ length (now other)) × Own (now bytes) x × Connected (now bytes) x ⌝ }
+fn learn(bytes: &[u8], at: &[u64; 65], x: u64, desk: &mut [u64], slate: &mut [u8]) -> Known
+    requires { ⌜ Lent (now bytes) (now at) (now desk) (now slate) × Own (now bytes) x × Connected (now bytes) x ⌝ }
     ensures known { λ r. ⌜ (r .hash ≡ hash (label (now (bytes .entry)) x)) × Stands (now (bytes .entry)) x (r .set) ⌝ }
     ensures cached { λ r. ⌜ Cached (now (bytes .entry)) (now (desk .exit)) ⌝ }
-    ensures slots { λ r. ⌜ Slots (now (arena .exit)) (now (lengths .exit)) ⌝ }
+    ensures slate { λ r. ⌜ Slate (now (slate .exit)) ⌝ }
 {
-    let n = canonize::label_into(bytes, at, x, arena, lengths, scratch, own);
-    let h = compare::hash(&own[0..n]);
-    let y = choose(
-        bytes,
-        at,
-        x,
-        &own[0..n],
-        h,
-        desk,
-        arena,
-        lengths,
-        scratch,
-        other,
-    );
+    canonize::slate::keep(bytes, at, x, slate);
+    let h = canonize::slate::hash(slate);
+    let y = choose(bytes, at, x, h, desk, slate);
     Known { hash: h, set: y }
 }
 
 // The hash of x's label, and a set that stands for x.
-pub fn stands(
-    bytes: &[u8],
-    at: &[u64; 65],
-    x: u64,
-    desk: &mut [u64],
-    arena: &mut [u8],
-    lengths: &mut [usize],
-    scratch: &mut [u8],
-    own: &mut [u8],
-    other: &mut [u8],
-) -> Known
-    requires { ⌜ Lent (now bytes) (now at) (now desk) (now arena) (now lengths) (now scratch) (now own) × (389 ≤ length (now other)) × Own (now bytes) x × Connected (now bytes) x ⌝ }
+pub fn stands(bytes: &[u8], at: &[u64; 65], x: u64, desk: &mut [u64], slate: &mut [u8]) -> Known
+    requires { ⌜ Lent (now bytes) (now at) (now desk) (now slate) × Own (now bytes) x × Connected (now bytes) x ⌝ }
     ensures known { λ r. ⌜ (r .hash ≡ hash (label (now (bytes .entry)) x)) × Stands (now (bytes .entry)) x (r .set) ⌝ }
     ensures cached { λ r. ⌜ Cached (now (bytes .entry)) (now (desk .exit)) ⌝ }
-    ensures slots { λ r. ⌜ Slots (now (arena .exit)) (now (lengths .exit)) ⌝ }
+    ensures slate { λ r. ⌜ Slate (now (slate .exit)) ⌝ }
 {
     let i = 3 * slot(x);
     if desk[i] == x {
@@ -162,7 +84,7 @@ pub fn stands(
             set: desk[i + 2],
         };
     }
-    let known = learn(bytes, at, x, desk, arena, lengths, scratch, own, other);
+    let known = learn(bytes, at, x, desk, slate);
     desk[i] = x;
     desk[i + 1] = known.hash;
     desk[i + 2] = known.set;

@@ -7,7 +7,7 @@ use Rattle.molecule.specs.Lists.{Bytes, fold}
 use Rattle.molecule.specs.Touch.{touching}
 use Rattle.molecule.proofs.Growing.{around-same}
 use Rattle.matches.specs.Table.{note, extended, candidates}
-use Rattle.enumerate.specs.Found.{grown, grownBy}
+use Rattle.enumerate.specs.Inner.Bucketed.{grown, grownBy}
 
 module _ (r : Bytes) (near : ℕ → ℕ) where
   grown-extended : (l : List ℕ) (s : ℕ) → ((x : ℕ) → bit s x ≡ 1 → near x ≡ touching r x) → grown near l s ≡ fold note l (extended r s)

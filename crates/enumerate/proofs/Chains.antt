@@ -11,10 +11,12 @@ use borrow.Author.Tests.{eq-eqb, ne-eqb}
 use lib.Dec.{eqb}
 use lib.ListN.{length, getD, take, set, length-append, length-set, List·getD-append}
 use lib.Seq.{take-length, take-suc, getD-at, getD-set-same, getD-set-other}
+use Rattle.clear.specs.Inner.Part.{zeroPart}
+use Rattle.clear.proofs.Part.{part-length, part-below, part-zero, part-above}
 use Rattle.bitset.proofs.Bools.{two}
 use Rattle.molecule.specs.Lists.{any, pick}
 use Rattle.matches.specs.Table.{note}
-use Rattle.enumerate.specs.Found.{bucketOf, lastIn, Found, Kept, Counted}
+use Rattle.enumerate.specs.Inner.Bucketed.{bucketOf, lastIn, Enumerated, Bucketed, Spared, Collected}
 
 -- ---- buckets
 
@@ -124,72 +126,78 @@ module _ (l : List ℕ) (p x : ℕ) where
     walking-none e = sym (w .left ∙ ap (λ (m : ℕ). any (eqb x) (take m l)) e)
 
 -- the same by the words of the table
-module _ (parts : List ℕ) (p : ℕ) (l : List ℕ) (f : Found parts p l) (x : ℕ) where
+module _ (parts : List ℕ) (p : ℕ) (l : List ℕ) (f : Bucketed parts p l) (x : ℕ) where
   pub walking-start : Walking l p x (getD parts (3 * p + bucketOf x p) 0)
   walking-start = rw (f .last (bucketOf x p) (bucket-lt x p (f .some))) (walking-last l p x (length l) (omega arith) (ap (any (eqb x)) (sym (take-length l))))
 
   module _ (k : ℕ) (w : Walking l p x k) (n : k ≢ 0) where
     pub walking-hit : getD parts (p + (k - 1)) 0 ≡ x → true ≡ any (eqb x) l
-    walking-hit e = walking-is l p x k w n (sym (f .sets (k - 1) (walking-within l p x k w n)) ∙ e)
+    walking-hit e = walking-is l p x k w n (sym (f .listed .sets (k - 1) (walking-within l p x k w n)) ∙ e)
 
     pub walking-next : getD parts (p + (k - 1)) 0 ≢ x → Walking l p x (getD parts (2 * p + (k - 1)) 0)
-    walking-next d = rw (f .before (k - 1) (walking-within l p x k w n)) (walking-on l p x k w n (λ e. d (f .sets (k - 1) (walking-within l p x k w n) ∙ e)))
+    walking-next d = rw (f .before (k - 1) (walking-within l p x k w n))
+        (walking-on l p x k w n (λ e. d (f .listed .sets (k - 1) (walking-within l p x k w n) ∙ e)))
 
     pub walking-less : getD parts (2 * p + (k - 1)) 0 < k
     walking-less = rw (f .before (k - 1) (walking-within l p x k w n)) (omega (arith, last-le l p (bucketOf (getD l (k - 1) 0) p) (k - 1)))
 
+-- ---- what is not written
+
+-- region 1 is as it was
+pub enumerated-same : {old now : List ℕ} {p : ℕ} {l : List ℕ} → ((i : ℕ) → p ≤ i → i < 2 * p → getD now i 0 ≡ getD old i 0) → Enumerated old p l
+    → Enumerated now p l
+enumerated-same {p = p} same f = record { fits = f .fits; sets = λ i h. same (p + i) (omega arith) (omega (arith, f .fits)) ∙ f .sets i h }
+
+-- regions 0 to 3 are
+pub bucketed-same : {old now : List ℕ} {p : ℕ} {l : List ℕ} → length now ≡ length old → ((i : ℕ) → i < 4 * p → getD now i 0 ≡ getD old i 0) → Bucketed old p l
+    → Bucketed now p l
+bucketed-same {p = p} long same f = record {
+  some = f .some;
+  wide = omega (arith, long, f .wide);
+  listed = enumerated-same (λ i h k. same i (omega arith)) (f .listed);
+  before = λ i h. same (2 * p + i) (omega (arith, f .listed .fits)) ∙ f .before i h;
+  last = λ h k. same (3 * p + h) (omega arith) ∙ f .last h k;
+}
+
 -- ---- clearing
 
-pub kept-same : (l : List ℕ) (p : ℕ) → Kept l l p
-kept-same l p = record { long = refl; nodes = λ i h. refl; rest = λ i h. refl }
+pub spared-same : (l : List ℕ) (p : ℕ) → Spared l l p
+spared-same l p = record { long = refl; nodes = λ i h. refl; rest = λ i h. refl }
 
-pub kept-then : {k l m : List ℕ} {p : ℕ} → Kept k l p → Kept l m p → Kept k m p
-kept-then v w = record {
+pub spared-then : {k l m : List ℕ} {p : ℕ} → Spared k l p → Spared l m p → Spared k m p
+spared-then v w = record {
   long = w .long ∙ v .long;
   nodes = λ i h. w .nodes i h ∙ v .nodes i h;
   rest = λ i h. w .rest i h ∙ v .rest i h;
 }
 
 -- a word of regions 1 to 3
-kept-set : (l : List ℕ) (p i v : ℕ) → p ≤ i → i < 4 * p → Kept l (set l i v) p
-kept-set l p i v h g = record {
+spared-set : (l : List ℕ) (p i v : ℕ) → p ≤ i → i < 4 * p → Spared l (set l i v) p
+spared-set l p i v h g = record {
   long = length-set l i v;
   nodes = λ j k. getD-set-other l i j v 0 (λ e. omega arith);
   rest = λ j k. getD-set-other l i j v 0 (λ e. omega arith);
 }
 
--- the buckets below h are empty
-pub record Clearing (old now : List ℕ) (p h : ℕ) : Type 0 where
-  pub kept : Kept old now p
-  pub none : (g : ℕ) → g < h → getD now (3 * p + g) 0 ≡ 0
-
-pub clearing-start : (old : List ℕ) (p : ℕ) → Clearing old old p 0
-clearing-start old p = record { kept = kept-same old p; none = λ g h. absurd (omega arith) }
-
-module _ (old now : List ℕ) (p h : ℕ) (wide : 4 * p ≤ length old) (w : Clearing old now p h) where
-  pub clearing-next : h < p → Clearing old (set now (3 * p + h) 0) p (h + 1)
-  clearing-next l = record {
-    kept = kept-then (w .kept) (kept-set now p (3 * p + h) 0 (omega arith) (omega arith));
-    none = λ g k. go g k (ℕ-discrete g h);
-  }
-    where
-      go : (g : ℕ) → g < h + 1 → Dec (g ≡ h) → getD (set now (3 * p + h) 0) (3 * p + g) 0 ≡ 0
-      go g k (yes e) = rw e (getD-set-same now (3 * p + h) 0 0 (omega (arith, w .kept .long)))
-      go g k (no e) = getD-set-other now (3 * p + h) (3 * p + g) 0 0 (λ q. e (omega arith)) ∙ w .none g (omega arith)
-
-  pub clearing-done : 0 < p → p ≤ h → Found now p [] × Kept old now p
-  unfolding lastIn
-  clearing-done s l = (
-    record {
-      some = s;
-      wide = omega (arith, w .kept .long);
-      fits = omega arith;
-      sets = λ i k. absurd (omega arith);
-      before = λ i k. absurd (omega arith);
-      last = λ g k. w .none g (omega arith);
-    },
-    w .kept,
-  )
+-- the buckets are emptied
+pub emptied : (old now : List ℕ) (p : ℕ) → 0 < p → 4 * p ≤ length old → now ≡ zeroPart old (3 * p) (4 * p) → Bucketed now p [] × Spared old now p
+unfolding lastIn
+emptied old now p some wide e =
+    let order : 3 * p ≤ 4 * p = omega arith in
+    rw e (
+      record {
+        some = some;
+        wide = omega (arith, part-length old (3 * p) (4 * p) order wide);
+        listed = record { fits = omega arith; sets = λ i k. absurd (omega arith) };
+        before = λ i k. absurd (omega arith);
+        last = λ h k. part-zero old (3 * p) (4 * p) order wide (3 * p + h) (omega arith) (omega arith);
+      },
+      record {
+        long = part-length old (3 * p) (4 * p) order wide;
+        nodes = λ i h. part-below old (3 * p) (4 * p) order wide i (omega arith);
+        rest = part-above old (3 * p) (4 * p) order wide;
+      },
+    )
 
 -- ---- adding
 
@@ -214,10 +222,10 @@ abbrev pub putIn : List ℕ → ℕ → ℕ → ℕ → ℕ → List ℕ
 putIn parts p n x h = set (set (set parts (p + n) x) (2 * p + n) (getD parts (3 * p + h) 0)) (3 * p + h) (n + 1)
 
 module _ (parts : List ℕ) (p n x h : ℕ) (room : n < p) (bucket : h < p) where
-  pub kept-put : Kept parts (putIn parts p n x h) p
-  kept-put = kept-then (kept-set parts p (p + n) x (omega arith) (omega arith))
-      (kept-then (kept-set (set parts (p + n) x) p (2 * p + n) (getD parts (3 * p + h) 0) (omega arith) (omega arith))
-      (kept-set (set (set parts (p + n) x) (2 * p + n) (getD parts (3 * p + h) 0)) p (3 * p + h) (n + 1) (omega arith) (omega arith)))
+  pub spared-put : Spared parts (putIn parts p n x h) p
+  spared-put = spared-then (spared-set parts p (p + n) x (omega arith) (omega arith))
+      (spared-then (spared-set (set parts (p + n) x) p (2 * p + n) (getD parts (3 * p + h) 0) (omega arith) (omega arith))
+      (spared-set (set (set parts (p + n) x) (2 * p + n) (getD parts (3 * p + h) 0)) p (3 * p + h) (n + 1) (omega arith) (omega arith)))
 
   -- the words of each region
   put-set : (i : ℕ) → i ≤ n → getD (putIn parts p n x h) (p + i) 0 ≡ getD (set parts (p + n) x) (p + i) 0
@@ -253,7 +261,7 @@ module _ (parts : List ℕ) (p n x h : ℕ) (room : n < p) (bucket : h < p) wher
     put-last = getD-set-same (set (set parts (p + n) x) (2 * p + n) (getD parts (3 * p + h) 0)) (3 * p + h) (n + 1) 0 (omega (arith, long))
 
 -- x at the end of the list, in its bucket
-module _ (parts : List ℕ) (p : ℕ) (l : List ℕ) (f : Found parts p l) (n x h : ℕ) (room : n < p) (long-is : length l ≡ n) (its : h ≡ bucketOf x p) where
+module _ (parts : List ℕ) (p : ℕ) (l : List ℕ) (f : Bucketed parts p l) (n x h : ℕ) (room : n < p) (long-is : length l ≡ n) (its : h ≡ bucketOf x p) where
   abbrev more : List ℕ
   more = l ++ (x ∷ [])
 
@@ -272,12 +280,11 @@ module _ (parts : List ℕ) (p : ℕ) (l : List ℕ) (f : Found parts p l) (n x 
   more-last : (g m : ℕ) → m ≤ n → lastIn l p g m ≡ lastIn more p g m
   more-last g m k = last-same l more p g m (λ i j. sym (more-old i (omega arith)))
 
-  pub found-put : Found (putIn parts p n x h) p more
-  found-put = record {
+  pub bucketed-put : Bucketed (putIn parts p n x h) p more
+  bucketed-put = record {
     some = f .some;
-    wide = omega (arith, f .wide, kept-put parts p n x h room bucket .long);
-    fits = omega (arith, more-length);
-    sets = λ i g. set-of i (omega (arith, more-length)) (ℕ-discrete i n);
+    wide = omega (arith, f .wide, spared-put parts p n x h room bucket .long);
+    listed = record { fits = omega (arith, more-length); sets = λ i g. set-of i (omega (arith, more-length)) (ℕ-discrete i n) };
     before = λ i g. before-of i (omega (arith, more-length)) (ℕ-discrete i n);
     last = λ g k. last-of g k (ℕ-discrete g h);
   }
@@ -287,7 +294,7 @@ module _ (parts : List ℕ) (p : ℕ) (l : List ℕ) (f : Found parts p l) (n x 
       set-of i g (no e) =
           put-set parts p n x h room bucket i g
           ∙ getD-set-other parts (p + n) (p + i) x 0 (λ q. e (omega arith))
-          ∙ f .sets i (omega arith)
+          ∙ f .listed .sets i (omega arith)
           ∙ sym (more-old i (omega arith))
 
       before-of : (i : ℕ) → i ≤ n → Dec (i ≡ n) → getD (putIn parts p n x h) (2 * p + i) 0 ≡ lastIn more p (bucketOf (getD more i 0) p) i
@@ -309,19 +316,19 @@ module _ (parts : List ℕ) (p : ℕ) (l : List ℕ) (f : Found parts p l) (n x 
           ∙ rw (long-is, m) (more-last g n (omega arith) ∙ sym (last-past more p g n (λ q. e (sym q ∙ ap (λ (y : ℕ). bucketOf y p) more-new ∙ sym its))))
 
 -- what adding answers: x is there; it is new and has room; it is new and has none
-module _ (parts : List ℕ) (p : ℕ) (l : List ℕ) (f : Found parts p l) (n x : ℕ) (long-is : length l ≡ n) where
-  pub counted-old : true ≡ any (eqb x) l → Counted parts p (note l x) n
-  counted-old e = rw (note-known l x e) (record { count = λ h. sym long-is; found = λ h. f; over = λ h. omega arith })
+module _ (parts : List ℕ) (p : ℕ) (l : List ℕ) (f : Bucketed parts p l) (n x : ℕ) (long-is : length l ≡ n) where
+  pub collected-old : true ≡ any (eqb x) l → Collected parts p (note l x) n
+  collected-old e = rw (note-known l x e) (record { count = λ h. sym long-is; found = λ h. f; over = λ h. omega arith })
 
-  pub counted-new : false ≡ any (eqb x) l → n < p → (h : ℕ) → h ≡ bucketOf x p → Counted (putIn parts p n x h) p (note l x) (n + 1)
-  counted-new e room h its = rw (note-fresh l x e) (record {
+  pub collected-new : false ≡ any (eqb x) l → n < p → (h : ℕ) → h ≡ bucketOf x p → Collected (putIn parts p n x h) p (note l x) (n + 1)
+  collected-new e room h its = rw (note-fresh l x e) (record {
     count = λ g. sym (more-length parts p l f n x h room long-is its);
-    found = λ g. found-put parts p l f n x h room long-is its;
+    found = λ g. bucketed-put parts p l f n x h room long-is its;
     over = λ g. omega arith;
   })
 
-  pub counted-over : false ≡ any (eqb x) l → p ≤ n → Counted parts p (note l x) (n + 1)
-  counted-over e full = rw (note-fresh l x e) (record {
+  pub collected-over : false ≡ any (eqb x) l → p ≤ n → Collected parts p (note l x) (n + 1)
+  collected-over e full = rw (note-fresh l x e) (record {
     count = λ g. absurd (omega arith);
     found = λ g. absurd (omega arith);
     over = λ g. omega (arith, length-append l (x ∷ []));

@@ -14,8 +14,8 @@ use Rattle.molecule.specs.Lists.{fold}
 use Rattle.molecule.specs.Touch.{around}
 use Rattle.molecule.proofs.Growing.{around-in}
 use Rattle.matches.specs.Table.{note}
-use Rattle.enumerate.specs.Found.{Found, Kept, Counted, grown, grownBy}
-use Rattle.enumerate.proofs.Chains.{note-length, kept-then}
+use Rattle.enumerate.specs.Inner.Bucketed.{Bucketed, Spared, Collected, grown, grownBy}
+use Rattle.enumerate.proofs.Chains.{note-length, spared-then}
 
 -- ---- the list never gets shorter
 
@@ -44,19 +44,20 @@ module _ (near : ℕ → ℕ) where
   -- the candidates were l; the bonds of rest are still to be added to the parent
   pub record Extending (parent : ℕ) (l now : List ℕ) (p rest k : ℕ) : Type 0 where
     pub list : List ℕ
-    pub found : Found now p list
+    pub found : Bucketed now p list
     pub count : length list ≡ k
     pub left : fold note list (map (λ b. parent + 2 ^ b) (members rest)) ≡ grown near l parent
 
-  module _ (parent : ℕ) (l : List ℕ) where
-    pub extending-start : (now : List ℕ) (p k : ℕ) → Found now p l → length l ≡ k → Extending parent l now p (around near parent) k
+  module _ {parent : ℕ} {l : List ℕ} where
+    pub extending-start : {now : List ℕ} {p k : ℕ} → Bucketed now p l → length l ≡ k → Extending parent l now p (around near parent) k
     unfolding grown
-    extending-start now p k f e = record { list = l; found = f; count = e; left = refl }
+    extending-start f e = record { list = l; found = f; count = e; left = refl }
 
-    module _ (old : List ℕ) (p rest k : ℕ) (w : Extending parent l old p rest k) where
+    module _ {old : List ℕ} {p rest k : ℕ} (w : Extending parent l old p rest k) where
       -- bond b is the next; x is the parent with it
-      module _ (b next x : ℕ) (m : members rest ≡ b ∷ members next) (e : x ≡ parent + 2 ^ b) (now : List ℕ) (r : ℕ) (q : (l : List ℕ) → Found old p l → length l ≡ k → Counted now p (note l x) r) where
-        noted : Counted now p (note (w .list) x) r
+      module _ (b next x : ℕ) (m : members rest ≡ b ∷ members next) (e : x ≡ parent + 2 ^ b) (now : List ℕ) (r : ℕ)
+          (q : (l : List ℕ) → Bucketed old p l → length l ≡ k → Collected now p (note l x) r) where
+        noted : Collected now p (note (w .list) x) r
         noted = q (w .list) (w .found) (w .count)
 
         then-left : fold note (note (w .list) x) (map (λ b. parent + 2 ^ b) (members next)) ≡ grown near l parent
@@ -65,14 +66,14 @@ module _ (near : ℕ → ℕ) where
         pub extending-next : r ≤ p → Extending parent l now p next r
         extending-next h = record { list = note (w .list) x; found = noted .found h; count = sym (noted .count h); left = then-left }
 
-        pub extending-over : p < r → Counted now p (grown near l parent) r
+        pub extending-over : p < r → Collected now p (grown near l parent) r
         extending-over h = record {
           count = λ g. absurd (omega arith);
           found = λ g. absurd (omega arith);
           over = λ g. omega (arith, noted .over h, notes-length (note (w .list) x) (map (λ b. parent + 2 ^ b) (members next)), ap (λ (y : List ℕ). length y) then-left);
         }
 
-      pub extending-done : rest ≡ 0 → Counted old p (grown near l parent) k
+      pub extending-done : rest ≡ 0 → Collected old p (grown near l parent) k
       extending-done e =
           let z : w .list ≡ grown near l parent = ap (λ (bs : List ℕ). fold note (w .list) (map (λ b. parent + 2 ^ b) bs)) (sym (members-done rest e)) ∙ w .left in
           rw (← z) (record { count = λ g. sym (w .count); found = λ g. w .found; over = λ g. omega (arith, w .count) })
@@ -82,22 +83,23 @@ module _ (near : ℕ → ℕ) where
   -- the nodes x to to - 1 are still to be extended
   pub record Collecting (old now : List ℕ) (p from to x k : ℕ) : Type 0 where
     pub list : List ℕ
-    pub found : Found now p list
+    pub found : Bucketed now p list
     pub count : length list ≡ k
-    pub kept : Kept old now p
+    pub kept : Spared old now p
     pub left : grownBy near list (slice x to old) ≡ grownBy near [] (slice from to old)
 
-  module _ (old : List ℕ) (p from to : ℕ) where
-    pub collecting-start : (now : List ℕ) → Found now p [] × Kept old now p → Collecting old now p from to from 0
-    collecting-start now f = record { list = []; found = f .0; count = refl; kept = f .1; left = refl }
+  module _ {old : List ℕ} {p from to : ℕ} where
+    pub collecting-start : {now : List ℕ} → Bucketed now p [] × Spared old now p → Collecting old now p from to from 0
+    collecting-start f = record { list = []; found = f .0; count = refl; kept = f .1; left = refl }
 
-    module _ (now : List ℕ) (x k : ℕ) (w : Collecting old now p from to x k) where
+    module _ {now : List ℕ} {x k : ℕ} (w : Collecting old now p from to x k) where
       -- node x is extended
-      module _ (h : x < to) (g : to ≤ p) (then : List ℕ) (r : ℕ) (q : Kept now then p × ((l : List ℕ) → Found now p l → length l ≡ k → Counted then p (grown near l (getD now x 0)) r)) where
+      module _ (h : x < to) (g : to ≤ p) (then : List ℕ) (r : ℕ)
+          (q : Spared now then p × ((l : List ℕ) → Bucketed now p l → length l ≡ k → Collected then p (grown near l (getD now x 0)) r)) where
         parent : getD now x 0 ≡ getD old x 0
         parent = w .kept .nodes x (omega arith)
 
-        counted : Counted then p (grown near (w .list) (getD old x 0)) r
+        counted : Collected then p (grown near (w .list) (getD old x 0)) r
         counted = rw parent at (q .1 (w .list) (w .found) (w .count))
 
         on-left : grownBy near (grown near (w .list) (getD old x 0)) (slice (x + 1) to old) ≡ grownBy near [] (slice from to old)
@@ -105,11 +107,17 @@ module _ (near : ℕ → ℕ) where
         on-left = rw (add-one x) (ap (grownBy near (w .list)) (sym (slice-cons x to old 0 h (omega (arith, w .found .wide, w .kept .long)))) ∙ w .left)
 
         pub collecting-next : r ≤ p → Collecting old then p from to (x + 1) r
-        collecting-next j = record { list = grown near (w .list) (getD old x 0); found = counted .found j; count = sym (counted .count j); kept = kept-then (w .kept) (q .0); left = on-left }
+        collecting-next j = record {
+          list = grown near (w .list) (getD old x 0);
+          found = counted .found j;
+          count = sym (counted .count j);
+          kept = spared-then (w .kept) (q .0);
+          left = on-left;
+        }
 
-        pub collecting-over : p < r → Kept old then p × Counted then p (grownBy near [] (slice from to old)) r
+        pub collecting-over : p < r → Spared old then p × Collected then p (grownBy near [] (slice from to old)) r
         collecting-over j = (
-          kept-then (w .kept) (q .0),
+          spared-then (w .kept) (q .0),
           record {
             count = λ i. absurd (omega arith);
             found = λ i. absurd (omega arith);
@@ -117,7 +125,7 @@ module _ (near : ℕ → ℕ) where
           },
         )
 
-      pub collecting-done : x ≡ to → Kept old now p × Counted now p (grownBy near [] (slice from to old)) k
+      pub collecting-done : x ≡ to → Spared old now p × Collected now p (grownBy near [] (slice from to old)) k
       unfolding grownBy
       collecting-done e =
           let n : slice x to old ≡ [] = rw e (slice-empty to old) in

@@ -3,22 +3,24 @@ use mathlib.Core.Path.{_≡_, refl, sym, ap, _∙_}
 use mathlib.Core.Logic.{_⊎_, inl, inr, _≢_}
 use mathlib.Core.Bool.{true, false, false≢true}
 use mathlib.Core.List.{List, [], _∷_, _++_, List·Memᴰ, List·Memᴰ·head, List·Memᴰ·tail}
-use Prim.Native.Nat.{ℕ, zero, suc, _+_, _-_, _*_, _≤_, _<_}
+use Prim.Native.Nat.{ℕ, suc, _+_, _-_, _*_, _≤_, _<_}
 use native.Mathlib.Decide.{ℕ-discrete, decLt}
 use native.Mathlib.Numerals.{add-one}
 use native.Mathlib.Omega.{arith}
-use lib.ListN.{length, getD, set, take, drop, replicate, length-append, length-replicate, length-take, length-drop, length-set, drop-of-length-le, List·getD-append}
-use lib.Seq.{drop-cons, length-take-le, getD-take, getD-append-add, getD-set-same, getD-set-other}
+use lib.ListN.{length, getD, set, drop, length-set, drop-of-length-le}
+use lib.Seq.{drop-cons, getD-set-same, getD-set-other}
+use Rattle.clear.specs.Inner.Part.{zeroPart}
+use Rattle.clear.proofs.Part.{part-length, part-below, part-zero}
 use Rattle.molecule.specs.Lists.{Bytes, fold}
 use Rattle.molecule.specs.Connected.{Own, Connected}
-use Rattle.molecule.proofs.Lists.{zeros-at}
+use Rattle.molecule.proofs.Lists.{at-mem}
 use Rattle.canonize.specs.Strings.{lexLe, same}
 use Rattle.canonize.specs.Label.{label}
-use Rattle.canonize.proofs.Comparing.{same-iff}
-use Rattle.canonize.proofs.Laws.{le-refl}
+use Rattle.canonize.proofs.Laws.{same-iff, le-refl}
 use Rattle.matches.specs.Table.{Group, place, groups}
-use Rattle.enumerate.specs.Found.{Found}
-use Rattle.enumerate.specs.Grouped.{groupAt, Chain, ends, then, Keyed, Grouped, Ready, Around, Outside, keyAt, Firsts, Position, Opened, joined, Hints, Moved, Placing, Placed}
+use Rattle.enumerate.specs.Inner.Bucketed.{Bucketed}
+use Rattle.enumerate.specs.Inner.Grouped.{groupAt, Chain, ends, then, Keyed, Grouped, Groupable, Around, Outside, keyAt, Firsts, Position, GroupOpened, joined, Hints, Hinted, Leads, Moved, Placing, Placed}
+use Rattle.enumerate.proofs.Chains.{bucketed-same}
 use Rattle.enumerate.proofs.Placing.{position-of, putAt, put-length, put-before, put-this, put-after, Side, side, keysOf, grownGroup, newGroup, place-join, place-open, join-this, join-other, keyed-join, keyed-open}
 
 -- ---- what is not written
@@ -36,18 +38,11 @@ around-then v w = record {
   middle = λ i h k. w .middle i h k ∙ v .middle i h k;
 }
 
-pub found-around : {old now : List ℕ} {p : ℕ} {l : List ℕ} → Around old now p → Found old p l → Found now p l
-found-around {p = p} o f = record {
-  some = f .some;
-  wide = omega (arith, o .long, f .wide);
-  fits = f .fits;
-  sets = λ i h. o .low (p + i) (omega (arith, f .fits)) ∙ f .sets i h;
-  before = λ i h. o .low (2 * p + i) (omega (arith, f .fits)) ∙ f .before i h;
-  last = λ h k. o .low (3 * p + h) (omega arith) ∙ f .last h k;
-}
+pub bucketed-around : {old now : List ℕ} {p : ℕ} {l : List ℕ} → Around old now p → Bucketed old p l → Bucketed now p l
+bucketed-around o f = bucketed-same (o .long) (o .low) f
 
-pub ready-around : {r : Bytes} {old now : List ℕ} {p : ℕ} {l : List ℕ} → Around old now p → Ready r old p l → Ready r now p l
-ready-around o w = record { found = found-around o (w .found); wide = omega (arith, o .long, w .wide); own = w .own; connected = w .connected }
+pub groupable-around : {r : Bytes} {old now : List ℕ} {p : ℕ} {l : List ℕ} → Around old now p → Groupable r old p l → Groupable r now p l
+groupable-around o w = record { found = bucketed-around o (w .found); wide = omega (arith, o .long, w .wide); own = w .own; connected = w .connected }
 
 -- ---- chains
 
@@ -79,8 +74,10 @@ module _ {parts : List ℕ} {p : ℕ} {l : List ℕ} {n : ℕ} where
   chain-grow now (then {i = i} g q c) s a b = then {i = i} g (s i (omega (arith, g, chain-rise c, chain-below c)) (λ d. omega (arith, d, g, chain-rise c)) ∙ q) (chain-grow now c s a b)
 
   -- the first member, and what comes after it
-  pub chain-split : {i e : ℕ} {sets : List ℕ} → Chain parts p l n i sets e → (rest : List ℕ) × (sets ≡ getD l i 0 ∷ rest) × (((getD parts (5 * p + i) 0 ≡ 0) × (rest ≡ []) × (i ≡ e)) ⊎ ((j : ℕ) × (i < j) × (getD parts (5 * p + i) 0 ≡ suc j) × Chain parts p l n j rest e))
-  chain-split (ends h q) = ([], refl, inl (q, refl, refl))
+  pub chain-split : {i e : ℕ} {sets : List ℕ} → Chain parts p l n i sets e
+      → (rest : List ℕ) × (sets ≡ getD l i 0 ∷ rest) × (((getD parts (5 * p + i) 0 ≡ 0) × (rest ≡ []))
+      ⊎ ((j : ℕ) × (i < j) × (getD parts (5 * p + i) 0 ≡ suc j) × Chain parts p l n j rest e))
+  chain-split (ends h q) = ([], refl, inl (q, refl))
   chain-split (then {j = j} {sets = rest} h q c) = (rest, refl, inr (j, h, q, c))
 
   chain-cast : {i i′ e e′ : ℕ} {sets sets′ : List ℕ} → i′ ≡ i → sets′ ≡ sets → e′ ≡ e → Chain parts p l n i sets e → Chain parts p l n i′ sets′ e′
@@ -182,7 +179,7 @@ module _ (old now : List ℕ) (p g j : ℕ) (w : Shifting old now p g j) where
     word : (m : ℕ) → m ≢ 4 * p + k → m ≢ 5 * p + i → m ≢ 6 * p + i → getD third-put m 0 ≡ getD now m 0
     word m a b c = getD-set-other second-put (6 * p + i) m i 0 c ∙ getD-set-other first-put (5 * p + i) m 0 0 b ∙ getD-set-other now (4 * p + k) m i 0 a
 
-    pub shifting-done : Opened old third-put p g k i
+    pub shifting-done : GroupOpened old third-put p g k i
     shifting-done = record {
       outside = record {
         long = length-set second-put (6 * p + i) i ∙ put-long;
@@ -198,7 +195,7 @@ module _ (old now : List ℕ) (p g j : ℕ) (w : Shifting old now p g j) where
       lasts = λ m h. word (6 * p + m) (λ q. omega (arith, q, h)) (λ q. omega (arith, q, h)) (λ q. omega (arith, q, h)) ∙ w .above (6 * p + m) (omega (arith, h));
     }
 
-pub moved-open : {old now : List ℕ} {p g k i : ℕ} → k ≤ g → Opened old now p g k i → Moved old now p g (g + 1) i
+pub moved-open : {old now : List ℕ} {p g k i : ℕ} → k ≤ g → GroupOpened old now p g k i → Moved old now p g (g + 1) i
 moved-open {old} {now} {p} {g} {k} {i} b o = record { still = λ j h. go j h (decLt j k); new = λ n. (k, omega arith, o .first) }
   where
     go : (j : ℕ) → j < g → Dec (j < k) → (m : ℕ) × (m < g + 1) × (getD now (4 * p + m) 0 ≡ getD old (4 * p + j) 0)
@@ -215,44 +212,33 @@ hints-moved {p = p} o v w = record {
       (t .0, t .1, u .2 ∙ sym (t .2));
 }
 
--- m words from region 9 on become 0
-module _ (parts : List ℕ) (p m : ℕ) (zeros : List ℕ) (wide : 12 * p ≤ length parts) (room : m ≤ 3 * p) (is : zeros ≡ replicate (length (take (9 * p + m - 9 * p) (drop (9 * p) parts))) 0) where
-  abbrev n : ℕ
-  n = 9 * p + m - 9 * p
-
-  size : n ≡ m
-  size = omega arith
-
-  abbrev forgot : List ℕ
-  forgot = take (9 * p) parts ++ (zeros ++ drop n (drop (9 * p) parts))
-
-  before-long : length (take (9 * p) parts) ≡ 9 * p
-  before-long = length-take-le (9 * p) parts (omega arith)
-
-  zeros-long : length zeros ≡ m
-  zeros-long = rw (is, length-replicate) (simp (length-take, length-drop) (omega (arith, wide, room, size)))
-
-  forgot-word : (i : ℕ) → i < 9 * p → getD forgot i 0 ≡ getD parts i 0
-  forgot-word i h = List·getD-append (take (9 * p) parts) (zeros ++ drop n (drop (9 * p) parts)) 0 i (omega (arith, before-long, h)) ∙ getD-take (9 * p) parts i 0 h
-
-  forgot-none : (j : ℕ) → j < m → getD forgot (9 * p + j) 0 ≡ 0
-  forgot-none j h =
-      let e : 9 * p + j ≡ length (take (9 * p) parts) + j = omega (arith, before-long) in
-      ap (λ (i : ℕ). getD forgot i 0) e
-      ∙ getD-append-add (take (9 * p) parts) (zeros ++ drop n (drop (9 * p) parts)) j 0
-      ∙ List·getD-append zeros (drop n (drop (9 * p) parts)) 0 j (omega (arith, zeros-long, h))
-      ∙ ap (λ (l : List ℕ). getD l j 0) is
-      ∙ zeros-at (length (take n (drop (9 * p) parts))) j
-
-  pub forgot-around : Around parts forgot p
-  forgot-around = record {
-    long = simp (length-append, length-drop) (omega (arith, before-long, zeros-long, wide, room, size));
-    low = λ i h. forgot-word i (omega arith);
-    middle = λ i h k. forgot-word i k;
+-- a hint leads to the first member of a group
+module _ (r : Bytes) {parts : List ℕ} {p g m j : ℕ} (w : Hints parts p g m) (here : j < m) where
+  pub hinted : Firsts r parts p g → 9 * p + j < length parts → Hinted r parts p j
+  hinted v wide = record {
+    wide = wide;
+    within = λ f e. let u = w .first j f here e in rw (u .2) (v .within (u .0) (u .1));
+    own = λ f e. let u = w .first j f here e in rw (u .2) (v .own (u .0) (u .1));
+    connected = λ f e. let u = w .first j f here e in rw (u .2) (v .connected (u .0) (u .1));
   }
 
-  pub forgot-hints : Hints forgot p 0 m
-  forgot-hints = record { first = λ j f h e. absurd (omega (arith, e, forgot-none j h)) }
+  pub leads-group : (x : Bytes) → Leads r parts p j x → (k : ℕ) × (k < g) × (getD parts (9 * p + j) 0 ≡ suc (getD parts (4 * p + k) 0))
+      × (same x (keyAt r parts p k) ≡ true)
+  unfolding keyAt
+  leads-group x d =
+      let u = w .first j (d .0) here (d .1) in
+      (u .0, u .1, d .1 ∙ ap (λ (f : ℕ). suc f) (u .2), rw (← (u .2)) (d .2))
+
+-- m words from region 9 on become 0
+pub forgotten : (old now : List ℕ) (p m : ℕ) → 12 * p ≤ length old → m ≤ 3 * p → now ≡ zeroPart old (9 * p) (9 * p + m) → Around old now p × Hints now p 0 m
+forgotten old now p m wide room e =
+    let order : 9 * p ≤ 9 * p + m = omega arith in
+    let fits : 9 * p + m ≤ length old = omega arith in
+    let below = part-below old (9 * p) (9 * p + m) order fits in
+    rw e (
+      record { long = part-length old (9 * p) (9 * p + m) order fits; low = λ i h. below i (omega arith); middle = λ i h k. below i k },
+      record { first = λ j f h q. absurd (omega (arith, q, part-zero old (9 * p) (9 * p + m) order fits (9 * p + j) (omega arith) (omega arith))) },
+    )
 
 -- the hint j becomes y
 module _ (parts : List ℕ) (p j y : ℕ) where
@@ -294,11 +280,6 @@ module _ (parts : List ℕ) (p j y : ℕ) where
 
 -- ---- a candidate goes to its group
 
-mem-at : (l : List ℕ) (i : ℕ) → i < length l → List·Memᴰ (getD l i 0) l
-mem-at [] i h = absurd (omega arith)
-mem-at (x ∷ l) zero h = List·Memᴰ·head refl
-mem-at (x ∷ l) (suc i) h = List·Memᴰ·tail (mem-at l i (omega arith))
-
 -- groups have different keys
 distinct : {r : Bytes} {gs : List Group} → Keyed r gs → (j k : ℕ) → j < length gs → k < length gs → j ≢ k → keysOf gs j ≡ keysOf gs k → ⊥
 distinct {gs = gs} w j k h i n q = go (decLt j k)
@@ -310,7 +291,7 @@ distinct {gs = gs} w j k h i n q = go (decLt j k)
     go (yes a) = clash q (w .ascend j k a i)
     go (no a) = clash (sym q) (w .ascend k j (omega arith) h)
 
-module _ (r : Bytes) (parts : List ℕ) (p : ℕ) (l : List ℕ) (i : ℕ) (gs : List Group) (g : ℕ) (x : Bytes) (w : Placing r parts p l i gs g x) where
+module _ {r : Bytes} {parts : List ℕ} {p : ℕ} {l : List ℕ} {i : ℕ} {gs : List Group} {g : ℕ} {x : Bytes} (w : Placing r parts p l i gs g x) where
   abbrev f : ℕ → ℕ
   f k = getD parts (4 * p + k) 0
 
@@ -318,7 +299,7 @@ module _ (r : Bytes) (parts : List ℕ) (p : ℕ) (l : List ℕ) (i : ℕ) (gs :
   chain k h = w .grouped .chains k (omega (arith, w .count))
 
   pub placing-room : i < p
-  placing-room = omega (arith, w .more, w .ready .found .fits)
+  placing-room = omega (arith, w .more, w .ready .found .listed .fits)
 
   pub placing-wide : 7 * p ≤ length parts
   placing-wide = omega (arith, w .ready .wide)
@@ -333,10 +314,10 @@ module _ (r : Bytes) (parts : List ℕ) (p : ℕ) (l : List ℕ) (i : ℕ) (gs :
   placing-last k h = chain-below (chain k h)
 
   set-at : (k : ℕ) → k < g → getD parts (p + f k) 0 ≡ getD l (f k) 0
-  set-at k h = w .ready .found .sets (f k) (omega (arith, placing-first k h, w .more))
+  set-at k h = w .ready .found .listed .sets (f k) (omega (arith, placing-first k h, w .more))
 
   member : (k : ℕ) → k < g → List·Memᴰ (getD l (f k) 0) l
-  member k h = mem-at l (f k) (omega (arith, placing-first k h, w .more))
+  member k h = at-mem 0 l (f k) (omega (arith, placing-first k h, w .more))
 
   pub key-at : (k : ℕ) → k < g → keyAt r parts p k ≡ keysOf gs k
   unfolding keyAt
@@ -429,7 +410,7 @@ module _ (r : Bytes) (parts : List ℕ) (p : ℕ) (l : List ℕ) (i : ℕ) (gs :
       }
 
     -- it opens a group at k
-    module _ (n : k < g → same x (keyAt r parts p k) ≡ false) (now : List ℕ) (o : Opened parts now p g k i) where
+    module _ (n : k < g → same x (keyAt r parts p k) ≡ false) (now : List ℕ) (o : GroupOpened parts now p g k i) where
       unequal : k < length gs → same x (keysOf gs k) ≡ false
       unequal h = let b : k < g = omega (arith, w .count) in rw (← (key-at k b)) (n b)
 
@@ -468,20 +449,68 @@ module _ (r : Bytes) (parts : List ℕ) (p : ℕ) (l : List ℕ) (i : ℕ) (gs :
         count = rw is-put (omega (arith, put-count, w .count));
       }
 
+-- what placing candidate i does to the table, whatever the candidates and groups are
+abbrev pub Places : Bytes → List ℕ → List ℕ → ℕ → ℕ → ℕ → ℕ → Bytes → Type 0
+Places r old now p i g n x = (l : List ℕ) (gs : List Group) → Placing r old p l i gs g x → Placed r now p l i gs n x
+
+module _ {r : Bytes} {parts : List ℕ} {p : ℕ} {l : List ℕ} {i : ℕ} {gs : List Group} {g : ℕ} {x : Bytes} (w : Placing r parts p l i gs g x) where
+  -- candidate i joins group k
+  pub join-places : (k : ℕ) → Position (keyAt r parts p) g x k → k < g → same x (keyAt r parts p k) ≡ true → (now : List ℕ)
+      → now ≡ joined parts p (getD parts (4 * p + k) 0) i
+      → Outside parts now p × Moved parts now p g g i × Places r parts now p i g g x
+  join-places k pos h t now e =
+      let a = placing-firsts w .within k h in
+      let b : getD parts (6 * p + getD parts (4 * p + k) 0) 0 < p = omega (arith, placing-last w k h, placing-room w) in
+      let f = getD parts (4 * p + k) 0 in (
+        rw e (join-outside parts p f i (placing-wide w) a (placing-room w) b),
+        rw e (moved-join parts p f i (placing-wide w) a (placing-room w) b g (placing-firsts w .few)),
+        λ l gs v. rw e (placed-join v k pos h t),
+      )
+
+  -- it opens a group at k
+  pub open-places : (k : ℕ) → Position (keyAt r parts p) g x k → (k < g → same x (keyAt r parts p k) ≡ false) → (now : List ℕ) → GroupOpened parts now p g k i
+      → Outside parts now p × Moved parts now p g (g + 1) i × Places r parts now p i g (g + 1) x
+  open-places k pos n now o = (o .outside, moved-open (pos .within) o, λ l gs v. placed-open v k pos n now o)
+
+  module _ {m : ℕ} (hints : Hints parts p g m) where
+    -- hint j leads to its group, which it joins
+    pub hint-places : (j : ℕ) → j < m → Leads r parts p j x → (now : List ℕ) → now ≡ joined parts p (getD parts (9 * p + j) 0 - 1) i
+        → Around parts now p × Hints now p g m × Places r parts now p i g g x
+    hint-places j here d now e =
+        let k = leads-group r hints here x d in
+        let f : getD parts (9 * p + j) 0 - 1 ≡ getD parts (4 * p + k .0) 0 = omega (arith, k .2) in
+        let b = join-places (k .0) (placing-position w (k .0) (k .1) (k .3)) (k .1) (k .3) now (e ∙ ap (λ (z : ℕ). joined parts p z i) f) in
+        (outside-around (b .0), hints-moved (b .0) (b .1) hints, b .2)
+
+    -- it was placed by order, and hint j becomes i + 1 where that opened a group
+    module _ (now : List ℕ) (n : ℕ) (b : Outside parts now p × Moved parts now p g n i × Places r parts now p i g n x) where
+      pub order-places : Around parts now p × Hints now p n m × Places r parts now p i g n x
+      order-places = (outside-around (b .0), hints-moved (b .0) (b .1) hints, b .2)
+
+      pub new-places : (j : ℕ) → 9 * p + j < length parts → n ≢ g → Around parts (set now (9 * p + j) (i + 1)) p × Hints (set now (9 * p + j) (i + 1)) p n m
+          × Places r parts (set now (9 * p + j) (i + 1)) p i g n x
+      new-places j wide new =
+          let q = b .2 l gs w in
+          let few : n ≤ p = omega (arith, q .grouped .few, q .count, placing-room w) in (
+            around-then (outside-around (b .0)) (around-noted now p j (i + 1)),
+            hints-noted now p j (i + 1) m n i refl (omega (arith, wide, b .0 .long)) few (b .1 .new new) (order-places .1),
+            λ l gs v. placed-noted now p j (i + 1) (placing-room w) (b .2 l gs v),
+          )
+
 -- ---- the candidates one at a time
 
 -- the first i of the candidates are grouped
 pub record Grouping (r : Bytes) (l now : List ℕ) (p i g : ℕ) : Type 0 where
   pub list : List Group
-  pub ready : Ready r now p l
+  pub ready : Groupable r now p l
   pub grouped : Grouped r now p l i list
   pub count : length list ≡ g
   pub left : fold (λ gs x. place gs x (label r x)) list (drop i l) ≡ groups r l
 
-module _ (r : Bytes) (l : List ℕ) (p : ℕ) where
-  pub grouping-start : (now : List ℕ) → Ready r now p l → Grouping r l now p 0 0
+module _ {r : Bytes} {l : List ℕ} {p : ℕ} {now : List ℕ} where
+  pub grouping-start : Groupable r now p l → Grouping r l now p 0 0
   unfolding groups groupAt
-  grouping-start now w = record {
+  grouping-start w = record {
     list = [];
     ready = w;
     grouped = record {
@@ -493,22 +522,28 @@ module _ (r : Bytes) (l : List ℕ) (p : ℕ) where
     left = refl;
   }
 
-  module _ (now : List ℕ) (i g : ℕ) (w : Grouping r l now p i g) where
+  module _ {i g : ℕ} (w : Grouping r l now p i g) where
     pub grouping-own : i < length l → Own r (getD now (p + i) 0)
-    grouping-own h = rw (w .ready .found .sets i h) (w .ready .own (getD l i 0) (mem-at l i h))
+    grouping-own h = rw (w .ready .found .listed .sets i h) (w .ready .own (getD l i 0) (at-mem 0 l i h))
 
     pub grouping-connected : i < length l → Connected r (getD now (p + i) 0)
-    grouping-connected h = rw (w .ready .found .sets i h) (w .ready .connected (getD l i 0) (mem-at l i h))
+    grouping-connected h = rw (w .ready .found .listed .sets i h) (w .ready .connected (getD l i 0) (at-mem 0 l i h))
 
     pub grouping-placing : i < length l → (x : Bytes) → x ≡ label r (getD now (p + i) 0) → Placing r now p l i (w .list) g x
-    grouping-placing h x e = record { ready = w .ready; grouped = w .grouped; count = w .count; more = h; its = e ∙ ap (label r) (w .ready .found .sets i h) }
+    grouping-placing h x e = record {
+      ready = w .ready;
+      grouped = w .grouped;
+      count = w .count;
+      more = h;
+      its = e ∙ ap (label r) (w .ready .found .listed .sets i h);
+    }
 
     pub grouping-next : i < length l → (x : Bytes) → x ≡ label r (getD now (p + i) 0) → (next : List ℕ) (m : ℕ) → Around now next p → Placed r next p l i (w .list) m x → Grouping r l next p (i + 1) m
     grouping-next h x e next m o q =
-        let z : x ≡ label r (getD l i 0) = e ∙ ap (label r) (w .ready .found .sets i h) in
+        let z : x ≡ label r (getD l i 0) = e ∙ ap (label r) (w .ready .found .listed .sets i h) in
         record {
           list = place (w .list) (getD l i 0) x;
-          ready = ready-around o (w .ready);
+          ready = groupable-around o (w .ready);
           grouped = q .grouped;
           count = q .count;
           left = rw (z, add-one i) (ap (fold (λ gs y. place gs y (label r y)) (w .list)) (sym (drop-cons l i 0 h)) ∙ w .left);

@@ -10,12 +10,12 @@ use lib.ListN.{length, set, length-set}
 use lib.Seq.{getD-set-same, getD-set-other}
 use Rattle.bitset.proofs.Bools.{two}
 use Rattle.molecule.specs.Lists.{Bytes}
+use Rattle.molecule.proofs.Lists.{at-mem}
 use Rattle.canonize.specs.Strings.{lexLe, same}
 use Rattle.canonize.specs.Label.{label}
-use Rattle.canonize.proofs.Comparing.{same-iff}
-use Rattle.canonize.proofs.Laws.{le-refl, le-trans, le-antisym, le-total}
+use Rattle.canonize.proofs.Laws.{same-iff, le-refl, le-trans, le-antisym, le-total}
 use Rattle.matches.specs.Table.{Group, place}
-use Rattle.enumerate.specs.Grouped.{groupAt, Keyed, Position}
+use Rattle.enumerate.specs.Inner.Grouped.{groupAt, Keyed, Position}
 
 -- ---- the order of labels
 
@@ -68,6 +68,20 @@ module _ (keys : ℕ → Bytes) (g : ℕ) (x : Bytes) where
     searching-done h =
         let e : low ≡ high = omega (arith, w .ordered) in
         record { within = omega (arith, w .within); before = w .before; after = λ i. rw e (w .after (rw e at i)) }
+
+-- ---- groups by number
+
+pub group-first : (g : Group) (gs : List Group) → groupAt (g ∷ gs) 0 ≡ g
+unfolding groupAt
+group-first g gs = refl
+
+pub group-later : (g : Group) (gs : List Group) (k : ℕ) → groupAt (g ∷ gs) (suc k) ≡ groupAt gs k
+unfolding groupAt
+group-later g gs k = refl
+
+pub group-mem : (gs : List Group) (k : ℕ) → k < length gs → List·Memᴰ (groupAt gs k) gs
+unfolding groupAt
+group-mem gs k h = at-mem (record { key = []; sets = [] }) gs k h
 
 -- ---- a group more
 

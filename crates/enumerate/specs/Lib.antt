@@ -1,3 +1,2 @@
 -- What the regions of the parts table hold while the fragments of one size are found and grouped.
-pub mod Found
-pub mod Grouped
+pub mod Inner

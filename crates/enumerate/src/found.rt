@@ -1,4 +1,5 @@
-// The candidates of one size, in order found, each once. Regions of p words: 0 the nodes, 1 the candidates, 2 for each candidate 1 more than the index of the one before it in its bucket, 3 for each bucket 1 more than that of its last, 0 for none.
+// The candidates of one size, in order found, each once. Regions of p words: 0 the nodes, 1 the candidates, 2 for each candidate 1 more than the
+// index of the one before it in its bucket, 3 for each bucket 1 more than that of its last, 0 for none.
 ghost use mathlib.Core.Path.{_≡_};
 ghost use mathlib.Core.List.{List, []};
 ghost use Prim.Native.Nat.{ℕ, _*_, _≤_, _<_};
@@ -7,19 +8,7 @@ ghost use lib.Seq.{slice};
 ghost use lib.Dec.{eqb};
 ghost use Rattle.molecule.specs.Lists.{any};
 ghost use Rattle.matches.specs.Table.{note};
-ghost use Rattle.enumerate.specs.Found.{bucketOf, Found, Holds, Kept, Counted, grown, grownBy};
-
-// Empties the buckets: there are no candidates.
-pub fn clear(parts: &mut [u64], p: usize)
-    requires { ⌜ (0 < p) × (4 * p ≤ length (now parts)) ⌝ }
-    ensures { λ r. ⌜ Found (now (parts .exit)) p [] × Kept (now (parts .entry)) (now (parts .exit)) p ⌝ }
-{
-    let mut h = 0;
-    while h < p {
-        parts[3 * p + h] = 0;
-        h += 1;
-    }
-}
+ghost use Rattle.enumerate.specs.Inner.Bucketed.{bucketOf, Bucketed, Filled, Spared, Collected, grown, grownBy};
 
 // The bucket of x.
 fn bucket(x: u64, p: usize) -> usize
@@ -31,8 +20,8 @@ fn bucket(x: u64, p: usize) -> usize
 
 // Whether x is among them.
 fn known(parts: &[u64], p: usize, x: u64) -> bool
-    requires { ⌜ ((l : List ℕ) × Found (now parts) p l) ⌝ }
-    ensures { λ r. ⌜ ((l : List ℕ) → Found (now (parts .entry)) p l → r ≡ any (eqb x) l) ⌝ }
+    requires { ⌜ ((l : List ℕ) × Bucketed (now parts) p l) ⌝ }
+    ensures { λ r. ⌜ ((l : List ℕ) → Bucketed (now (parts .entry)) p l → r ≡ any (eqb x) l) ⌝ }
 {
     let mut k = parts[3 * p + bucket(x, p)];
     while k != 0 {
@@ -47,8 +36,9 @@ fn known(parts: &[u64], p: usize, x: u64) -> bool
 
 // Adds x, unless it is there. The answer is how many there are then, p + 1 where there is no room.
 fn note(parts: &mut [u64], p: usize, count: usize, x: u64) -> usize
-    requires { ⌜ Holds (now parts) p count ⌝ }
-    ensures { λ r. ⌜ Kept (now (parts .entry)) (now (parts .exit)) p × ((l : List ℕ) → Found (now (parts .entry)) p l → length l ≡ count → Counted (now (parts .exit)) p (note l x) r) ⌝ }
+    requires { ⌜ Filled (now parts) p count ⌝ }
+    ensures { λ r. ⌜ Spared (now (parts .entry)) (now (parts .exit)) p
+        × ((l : List ℕ) → Bucketed (now (parts .entry)) p l → length l ≡ count → Collected (now (parts .exit)) p (note l x) r) ⌝ }
 {
     if known(parts, p, x) {
         return count;
@@ -66,8 +56,10 @@ fn note(parts: &mut [u64], p: usize, count: usize, x: u64) -> usize
 
 // A parent extended by each touching bond, ascending. The answer is how many there are then, more than p where there is no room.
 pub fn extend(touch: &[u64; 64], parts: &mut [u64], p: usize, count: usize, parent: u64) -> usize
-    requires { ⌜ Holds (now parts) p count ⌝ }
-    ensures { λ r. ⌜ Kept (now (parts .entry)) (now (parts .exit)) p × ((l : List ℕ) → Found (now (parts .entry)) p l → length l ≡ count → Counted (now (parts .exit)) p (grown (λ (i : ℕ). getD (now (touch .entry)) i 0) l parent) r) ⌝ }
+    requires { ⌜ Filled (now parts) p count ⌝ }
+    ensures { λ r. ⌜ Spared (now (parts .entry)) (now (parts .exit)) p
+        × ((l : List ℕ) → Bucketed (now (parts .entry)) p l → length l ≡ count
+        → Collected (now (parts .exit)) p (grown (λ (i : ℕ). getD (now (touch .entry)) i 0) l parent) r) ⌝ }
 {
     let mut rest = molecule::graph::around(touch, parent);
     let mut k = count;
@@ -85,9 +77,10 @@ pub fn extend(touch: &[u64; 64], parts: &mut [u64], p: usize, count: usize, pare
 // The candidates that the nodes from .. to give as parents. The answer is how many there are, more than p where there is no room.
 pub fn candidates(touch: &[u64; 64], parts: &mut [u64], p: usize, from: usize, to: usize) -> usize
     requires { ⌜ (0 < p) × (4 * p ≤ length (now parts)) × (from ≤ to) × (to ≤ p) ⌝ }
-    ensures { λ r. ⌜ Kept (now (parts .entry)) (now (parts .exit)) p × Counted (now (parts .exit)) p (grownBy (λ (i : ℕ). getD (now (touch .entry)) i 0) [] (slice from to (now (parts .entry)))) r ⌝ }
+    ensures { λ r. ⌜ Spared (now (parts .entry)) (now (parts .exit)) p
+        × Collected (now (parts .exit)) p (grownBy (λ (i : ℕ). getD (now (touch .entry)) i 0) [] (slice from to (now (parts .entry)))) r ⌝ }
 {
-    clear(parts, p);
+    clear::zero_part(parts, 3 * p, 4 * p);
     let mut count = 0;
     let mut x = from;
     while x < to {

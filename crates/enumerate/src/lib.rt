@@ -1,3 +1,3 @@
-// The fragments of one size more than given ones (src/enumerate.rs), each once, and their groups by label.
+// The fragments of one size more than given ones (`Matches::new` of src/matches.rs), each once, and their groups by label.
 pub mod found;
 pub mod groups;

@@ -5,7 +5,7 @@ use Rattle.lines.specs.declared.score_line.Room.{Room}
 use Rattle.lines.specs.declared.score_line.Room.the-variants.{Lengths, Unreadable}
 
 -- the program has as many elements of each
-pub record Held (lent : Lent) : Type 0 where
+pub record FitsSpace (lent : Lent) : Type 0 where
   pub trail : lent .trail ≤ 40
   pub parts : lent .parts ≤ 65536
   pub pairs : lent .pairs ≤ 65536
@@ -13,6 +13,6 @@ pub record Held (lent : Lent) : Type 0 where
   pub desk : lent .desk ≤ 5000
 
 -- where lengths were read
-abbrev pub HeldRoom : Room → Type 0
-HeldRoom (Lengths lent) = Held lent
-HeldRoom Unreadable = Unit
+abbrev pub FitsRoom : Room → Type 0
+FitsRoom (Lengths lent) = FitsSpace lent
+FitsRoom Unreadable = Unit

@@ -1,9 +1,6 @@
 // The command `score HEX BOUNDS MEMO BUDGET [TRAIL PARTS PAIRS MEMO DESK]`: the score of a record, asked with a trail and tables of so many elements.
 ghost use mathlib.Core.Path.{_≡_};
-ghost use Rattle.search.specs.Answer.{scoreAnswer};
-ghost use Rattle.recurse.specs.Follows.{settingOf};
-ghost use Rattle.assembly.specs.Answer.{answerOf, roomOf};
-ghost use Rattle.lines.specs.Lent.{Held, HeldRoom};
+ghost use Rattle.lines.specs.Lent.{FitsSpace, FitsRoom};
 use crate::Answer;
 use crate::hex;
 use crate::hex::Bytes;
@@ -13,10 +10,10 @@ use crate::numbers::Number;
 use crate::output;
 use crate::words;
 use crate::words::Word;
+use assembly::Setting;
 use assembly::answer::Score;
 use assembly::answer::Scored;
 use assembly::score;
-use recurse::visit::Setting;
 
 // How many elements the trail and each table have.
 pub struct Lent {
@@ -82,7 +79,7 @@ fn setting_of(bounds: &[u8], memo: &[u8], budget: &[u8]) -> Asked {
 
 // The lengths that stand after the budget's word: all five, or none, and then 32, 65536, 65536, 163840 and 4096.
 fn lengths(line: &[u8], budget: Word) -> Room
-    ensures { λ r. ⌜ HeldRoom r ⌝ }
+    ensures { λ r. ⌜ FitsRoom r ⌝ }
 {
     if words::is_last(line, budget) {
         return Room::Lengths(Lent {
@@ -134,9 +131,7 @@ fn score_over(
     pairs: &mut [u64],
     memo: &mut [u64],
     desk: &mut [u64],
-) -> Scored
-    ensures { λ r. ⌜ answerOf r (now (trail .exit)) ≡ scoreAnswer (now (bytes .entry)) (settingOf setting) (roomOf (now (trail .entry)) (now (parts .entry)) (now (pairs .entry)) (now (memo .entry)) (now (desk .entry))) ⌝ }
-{
+) -> Scored {
     noise::fill_numbers(trail);
     noise::fill(parts);
     noise::fill(pairs);
@@ -147,7 +142,7 @@ fn score_over(
 
 // Scores with a trail and tables of so many elements, and puts the answer.
 fn put_score(bytes: &[u8], setting: Setting, lent: Lent, out: &mut [u8; 4096], at: usize) -> usize
-    requires { ⌜ Held lent ⌝ }
+    requires { ⌜ FitsSpace lent ⌝ }
 {
     let mut space = [0u32; 40];
     let mut first = [0u64; 65536];

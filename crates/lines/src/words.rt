@@ -3,7 +3,7 @@ ghost use Prim.Native.Nat.{_+_, _-_};
 ghost use mathlib.Core.Path.{_≡_};
 ghost use lib.Dec.{leb};
 ghost use lib.ListN.{length, take, drop};
-ghost use Rattle.lines.specs.Words.{Within, WordAt};
+ghost use Rattle.lines.specs.Words.{InLine, WordAt};
 
 // A word: from the place start up to the place end.
 pub struct Word {
@@ -54,7 +54,7 @@ pub fn is_last(line: &[u8], word: Word) -> bool
 
 // The bytes of a word.
 pub fn text(line: &[u8], word: Word) -> &[u8]
-    requires { ⌜ Within (now line) word ⌝ }
+    requires { ⌜ InLine (now line) word ⌝ }
     ensures { λ r. ⌜ now r ≡ take (word .end - word .start) (drop (word .start) (now (line .entry))) ⌝ }
 {
     let start = word.start;

@@ -8,9 +8,8 @@ use Rattle.bitset.proofs.Bools.{two}
 use Rattle.molecule.specs.Lists.{Bytes, fold}
 use Rattle.canonize.specs.Strings.{lexLe, same}
 use Rattle.canonize.specs.Label.{label}
-use Rattle.canonize.proofs.Comparing.{same-iff}
-use Rattle.canonize.proofs.Laws.{le-refl, le-trans, le-antisym}
-use Rattle.canonize.proofs.Lists.{Distinct}
+use Rattle.canonize.proofs.Laws.{same-iff, le-refl, le-trans, le-antisym}
+use Rattle.molecule.proofs.Perms.{Distinct}
 use Rattle.matches.specs.Table.{Group, place, groups}
 use Rattle.matches.proofs.Noting.{distinct-append}
 

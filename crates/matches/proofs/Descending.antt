@@ -19,12 +19,11 @@ use Rattle.molecule.proofs.Lists.{at-mem, Ordered, ordered-append, ordered-map,
 use Rattle.molecule.proofs.Scans.{first-le, first-hit, first-before}
 use Rattle.canonize.specs.Strings.{lexLe, same}
 use Rattle.canonize.specs.Label.{label}
-use Rattle.canonize.proofs.Comparing.{same-iff}
-use Rattle.canonize.proofs.Laws.{le-antisym}
-use Rattle.canonize.proofs.Lists.{Distinct, keep-mem, keep-intro}
+use Rattle.canonize.proofs.Laws.{same-iff, le-antisym}
+use Rattle.molecule.proofs.Perms.{Distinct, keep-mem, keep-intro}
 use Rattle.matches.specs.Table.{Match, notBelow, matchTable}
 use Rattle.matches.specs.Laws.{Twins}
-use Rattle.matches.specs.Descending.{countdown, withEach, descend, apartBelow, Akin, Starts}
+use Rattle.matches.specs.Inner.Descending.{countdown, withEach, descend, apartBelow, Akin, Starts}
 use Rattle.matches.proofs.Noting.{distinct-at, Above, above-of}
 use Rattle.matches.proofs.Pairing.{Names, Matched}
 use Rattle.matches.proofs.Sizes.{Precedes, precedes-size, twins-differ, unsorted, unsorted-sane}

@@ -1,25 +1,39 @@
 -- The laws of the match table that other crates cite, and those of its order that serve whoever builds it. Assumes nothing.
-use mathlib.Core.Path.{_≡_, sym, subst}
-use mathlib.Core.List.{List, _++_, List·Memᴰ as Mem}
-use Prim.Native.Nat.{ℕ, _≤_, _<_}
+use mathlib.Core.Path.{_≡_, refl, sym, subst, _∙_}
+use mathlib.Core.List.{List, [], _∷_, _++_, List·Memᴰ as Mem}
+use Prim.Native.Nat.{ℕ, _*_, _≤_, _<_}
 use native.Mathlib.Omega.{arith}
+use lib.Bits.{bitOr}
 use lib.ListN.{length, getD}
+use Rattle.bitset.specs.Bits.{Sub, size}
+use Rattle.bitset.proofs.Laws.{size-mono, size-disjoint, size-first}
+use Rattle.bitset.proofs.Decide.{sets, v, or, sub}
 use Rattle.molecule.specs.Lists.{Bytes}
-use Rattle.molecule.specs.Record.{bonds}
+use Rattle.molecule.specs.Record.{bonds, allBonds}
 use Rattle.molecule.specs.Check.{accepted, check}
 use Rattle.molecule.specs.Connected.{Connected, Own}
+use Rattle.molecule.proofs.Components.{own-all}
 use Rattle.molecule.proofs.Lists.{Ordered}
-use Rattle.canonize.proofs.Lists.{Distinct}
-use Rattle.matches.specs.Table.{Table, pairUp, singles, matchTable, pairs}
+use Rattle.molecule.proofs.Perms.{Distinct}
+use Rattle.matches.specs.Table.{Table, Pair, pair, sizeOf, pairUp, singles, matchTable, pairs}
 use Rattle.matches.specs.Laws.{Twins, IsMatch, Laws}
-use Rattle.matches.proofs.Pairing.{Grows, pairUp-grows}
-use Rattle.matches.proofs.Sizes.{Precedes, sizes-grows, start, start-round, unsorted-sane}
-use Rattle.matches.proofs.Listed.{nodes, sorted-distinct, nodes-are, matches-are, m1, m2}
+use Rattle.matches.proofs.Sizes.{Precedes, unsorted-sane}
+use Rattle.matches.proofs.Listed.{nodes, sorted-distinct, matches-are, m1, m2}
 use Rattle.matches.proofs.Complete.{m3, all-listed}
-use Rattle.matches.specs.Descending.{Akin, Starts}
+use Rattle.matches.specs.Inner.Descending.{Akin, Starts}
 use Rattle.matches.proofs.Descending.{groupStart, together, group-starts}
-pub use Rattle.matches.proofs.Sizes.{candidates-distinct}
-pub use Rattle.matches.proofs.Descending.{descending}
+-- there are as many pairs as matches; rows 9 and 10
+pub use Rattle.matches.proofs.Recorded.{recorded-front, pairs-length}
+pub use Rattle.matches.proofs.RowLaws.{parts-over, pairs-over, all-fit, table-refused, table-fits}
+-- for whoever builds the table, as it grows and as it is written down
+pub use Rattle.matches.proofs.Noting.{distinct-at}
+pub use Rattle.matches.proofs.ByLabel.{before-differ, groups-every}
+pub use Rattle.matches.proofs.Pairing.{Grows, grows-refl, pairUp-grows}
+pub use Rattle.matches.proofs.Sizes.{Node, Round, next, newest, round-next, start, start-round, unsorted, sizes-grows, sizes-enough, last-parents, candidates-node, candidates-distinct, single-node}
+pub use Rattle.matches.proofs.Listed.{nodes-are, needs-are}
+pub use Rattle.matches.proofs.RowLaws.{need-stays}
+pub use Rattle.matches.proofs.Descending.{countdown-has, descend-has, descending}
+pub use Rattle.matches.proofs.Recorded.{table-recorded, starts-before, matches-in, words-in}
 
 -- ---- what a search cites
 
@@ -30,6 +44,29 @@ table-laws r ok = record { twins = m1 r; falls = m2 r; covers = m3 r ok }
 -- every two twins are a match
 pub complete : (r : Bytes) → check r ≡ accepted → (x y : ℕ) → Twins r x y → IsMatch (pairs r) x y
 complete = all-listed
+
+-- a match's size is that of either fragment
+pub sizeOf-first : (ms : List Pair) (m : ℕ) → size (pair ms m .h1) ≡ sizeOf ms m
+unfolding sizeOf
+sizeOf-first ms m = refl
+
+module _ (r : Bytes) (ms : List Pair) (M : Laws r ms) (m : ℕ) (is : m < length ms) where
+  pub sizeOf-second : size (pair ms m .h2) ≡ sizeOf ms m
+  sizeOf-second = sym (M .twins m is .same-size) ∙ sizeOf-first ms m
+
+  -- it is at least 2
+  pub sizeOf-two : 2 ≤ sizeOf ms m
+  sizeOf-two = omega (arith, M .twins m is .big, sizeOf-first ms m)
+
+  -- and at most half of the record's bonds
+  pub sizeOf-half : 2 * sizeOf ms m ≤ bonds r
+  sizeOf-half =
+      let x : ℕ = pair ms m .h1 in
+      let y : ℕ = pair ms m .h2 in
+      let t = M .twins m is in
+      let s : Sub (bitOr x y) (allBonds r) =
+      sets (sub (v 0) (v 2) ∷ sub (v 1) (v 2) ∷ []) (sub (or (v 0) (v 1)) (v 2)) (x ∷ y ∷ allBonds r ∷ []) tt (own-all r x (t .one-own)) (own-all r y (t .other-own)) in
+      omega (arith, size-mono (bitOr x y) (allBonds r) s, size-first (bonds r), size-disjoint x y (t .apart), sizeOf-first ms m, sizeOf-second)
 
 -- ---- nodes and matches, for whoever builds the table
 

@@ -1,4 +1,4 @@
--- The theory of the match table. The search's crates cite Laws.
+-- The theory of the match table. Other crates cite Laws alone.
 pub mod Noting
 pub mod ByLabel
 pub mod Pairing

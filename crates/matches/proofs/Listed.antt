@@ -10,7 +10,7 @@ use lib.ListN.{length, getD, length-map}
 use Rattle.bitset.specs.Bits.{size}
 use Rattle.molecule.specs.Lists.{Bytes, sortBy}
 use Rattle.molecule.proofs.Lists.{mem-at, at-mem, map-at, Ordered, ordered-at, sort-perm}
-use Rattle.canonize.proofs.Lists.{perm-mem, Distinct, distinct-perm}
+use Rattle.molecule.proofs.Perms.{perm-mem, Distinct, distinct-perm}
 use Rattle.matches.specs.Table.{Match, notBelow, matchTable, Pair, pairsOf, pair, sizeOf, pairs}
 use Rattle.matches.specs.Laws.{Twins, IsMatch}
 use Rattle.matches.proofs.Noting.{Above, above-of, sort-descends}

@@ -13,7 +13,7 @@ use Rattle.bitset.proofs.Bools.{two, or-true, or-left, or-right, and-true}
 use Rattle.molecule.specs.Lists.{any, fold, sortBy}
 use Rattle.molecule.proofs.Lists.{mem-at, at-mem, any-some, any-none, Ordered, sort-ordered}
 use Rattle.molecule.proofs.Scans.{first-hit, first-none}
-use Rattle.canonize.proofs.Lists.{Distinct}
+use Rattle.molecule.proofs.Perms.{Distinct}
 use Rattle.matches.specs.Table.{Match, note, numberOf, notBelow}
 
 -- ---- lists without repetition

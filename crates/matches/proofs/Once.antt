@@ -7,15 +7,15 @@ use native.Mathlib.Omega.{arith}
 use lib.ListN.{length, getD}
 use Rattle.molecule.specs.Lists.{Bytes, fold}
 use Rattle.canonize.specs.Label.{label}
-use Rattle.canonize.proofs.Lists.{Distinct}
+use Rattle.molecule.proofs.Perms.{Distinct}
 use Rattle.matches.specs.Table.{Group, Match, Table, meet, pairUp, groups, extend}
 use Rattle.matches.proofs.Noting.{distinct-append}
 use Rattle.matches.proofs.ByLabel.{Keys, Every, Once, before-differ, groups-keys, groups-every, groups-once}
 use Rattle.matches.proofs.Pairing.{Names, Matched, Grows, node-stays, node-fits, both, link, met, meet-by, met-names, met-grows, paired}
 
 -- the nodes of every match are there
-abbrev pub Within : Table → Type 0
-Within t = (m : Match) → Mem m (t .matches) → m .larger < length (t .nodes)
+abbrev pub NodesStand : Table → Type 0
+NodesStand t = (m : Match) → Mem m (t .matches) → m .larger < length (t .nodes)
 
 -- x with y
 abbrev Are : ℕ → ℕ → ℕ → ℕ → Type 0
@@ -43,25 +43,25 @@ module _ (x : ℕ) (t : Table) (y : ℕ) where
       let b = node-stays (λ z. Unit {0}) t (met x t y) grown (m .smaller) (omega (arith, n .below)) in
       record { fits = h; below = n .below; are = ⊎-elim (λ q. inl (sym a ∙ q .0, sym b ∙ q .1)) (λ q. inr (sym a ∙ q .0, sym b ∙ q .1)) (n .are) }
 
-  meet-within : Within t → Within (meet x t y)
-  meet-within i = meet-by Within x t y i
+  meet-within : NodesStand t → NodesStand (meet x t y)
+  meet-within i = meet-by NodesStand x t y i
       (λ d m k. ⊎-elim (λ (o : Mem m (t .matches)). node-fits (λ z. Unit {0}) t (met x t y) grown (m .larger) (i m o))
       (λ (o : Mem m (link t x y ∷ [])). subst (λ (z : Match). z .larger < length (both t x y)) (sym (mem-one o)) (met-names x t y .fits)) (mem-cases (t .matches) k))
 
   -- what is matched after it was before, or is x with y
-  meet-back : Within t → (u w : ℕ) → Matched (meet x t y) u w → Matched t u w ⊎ Are x y u w
+  meet-back : NodesStand t → (u w : ℕ) → Matched (meet x t y) u w → Matched t u w ⊎ Are x y u w
   meet-back i u w = meet-by (λ z. Matched z u w → Matched t u w ⊎ Are x y u w) x t y (λ a. inl a)
       (λ d a. ⊎-elim (λ (o : Mem (a .0) (t .matches)). inl (a .0, o, names-back (a .0) u w (i (a .0) o) (a .2)))
       (λ (o : Mem (a .0) (link t x y ∷ [])). inr (names-are (both t x y) (link t x y) x y u w (met-names x t y) (subst (λ (m : Match). Names (both t x y) m u w) (mem-one o) (a .2)))) (mem-cases (t .matches) (a .1)))
 
-  meet-once : Within t → (Matched t x y → ⊥) → Distinct (t .matches) → Distinct (meet x t y .matches)
+  meet-once : NodesStand t → (Matched t x y → ⊥) → Distinct (t .matches) → Distinct (meet x t y .matches)
   meet-once i n d = meet-by (λ z. Distinct (z .matches)) x t y d
       (λ e. distinct-append (t .matches) (link t x y ∷ []) d (λ m. not-nil m, tt)
       (λ m o p. let k : Mem (link t x y) (t .matches) = mem-cast (sym (mem-one p)) o in n (link t x y, k, names-back (link t x y) x y (i (link t x y) k) (met-names x t y))))
 
 -- ---- a group
 
-meets-within : (x : ℕ) (l : List ℕ) (t : Table) → Within t → Within (fold (meet x) t l)
+meets-within : (x : ℕ) (l : List ℕ) (t : Table) → NodesStand t → NodesStand (fold (meet x) t l)
 meets-within x [] t i = i
 meets-within x (y ∷ l) t i = meets-within x l (meet x t y) (meet-within x t y i)
 
@@ -69,7 +69,7 @@ meets-within x (y ∷ l) t i = meets-within x l (meet x t y) (meet-within x t y 
 abbrev Among : ℕ → List ℕ → ℕ → ℕ → Type 0
 Among x l u w = ((u ≡ x) × Mem w l) ⊎ (Mem u l × (w ≡ x))
 
-meets-back : (x : ℕ) (l : List ℕ) (t : Table) → Within t → (u w : ℕ) → Matched (fold (meet x) t l) u w → Matched t u w ⊎ Among x l u w
+meets-back : (x : ℕ) (l : List ℕ) (t : Table) → NodesStand t → (u w : ℕ) → Matched (fold (meet x) t l) u w → Matched t u w ⊎ Among x l u w
 meets-back x [] t i u w a = inl a
 meets-back x (y ∷ l) t i u w a = go (meets-back x l (meet x t y) (meet-within x t y i) u w a)
   where
@@ -78,7 +78,7 @@ meets-back x (y ∷ l) t i u w a = go (meets-back x l (meet x t y) (meet-within 
     go (inr (inl q)) = inr (inl (q .0, m-tail (q .1)))
     go (inr (inr q)) = inr (inr (m-tail (q .0), q .1))
 
-meets-once : (x : ℕ) (l : List ℕ) (t : Table) → Within t → Distinct l → ((z : ℕ) → Mem z l → Matched t x z → ⊥) → Distinct (t .matches) → Distinct (fold (meet x) t l .matches)
+meets-once : (x : ℕ) (l : List ℕ) (t : Table) → NodesStand t → Distinct l → ((z : ℕ) → Mem z l → Matched t x z → ⊥) → Distinct (t .matches) → Distinct (fold (meet x) t l .matches)
 meets-once x [] t i d n o = o
 meets-once x (y ∷ l) t i d n o =
     meets-once x l (meet x t y) (meet-within x t y i) (d .1) (λ z m a. ⊎-elim (n z (m-tail m)) (λ q. d .0 (mem-cast (same z q) m)) (meet-back x t y i x z a)) (meet-once x t y i (n y (m-head refl)) o)
@@ -87,12 +87,12 @@ meets-once x (y ∷ l) t i d n o =
     same z (inl q) = sym (q .1)
     same z (inr q) = sym (q .0) ∙ sym (q .1)
 
-pairUp-within : (l : List ℕ) (t : Table) → Within t → Within (pairUp t l)
+pairUp-within : (l : List ℕ) (t : Table) → NodesStand t → NodesStand (pairUp t l)
 unfolding pairUp
 pairUp-within [] t i = i
 pairUp-within (x ∷ l) t i = pairUp-within l (fold (meet x) t l) (meets-within x l t i)
 
-pairUp-back : (l : List ℕ) (t : Table) → Within t → (u w : ℕ) → Matched (pairUp t l) u w → Matched t u w ⊎ (Mem u l × Mem w l)
+pairUp-back : (l : List ℕ) (t : Table) → NodesStand t → (u w : ℕ) → Matched (pairUp t l) u w → Matched t u w ⊎ (Mem u l × Mem w l)
 unfolding pairUp
 pairUp-back [] t i u w a = inl a
 pairUp-back (x ∷ l) t i u w a = go (pairUp-back l (fold (meet x) t l) (meets-within x l t i) u w a)
@@ -101,7 +101,7 @@ pairUp-back (x ∷ l) t i u w a = go (pairUp-back l (fold (meet x) t l) (meets-w
     go (inl b) = ⊎-elim (λ o. inl o) (λ o. inr (⊎-elim (λ q. (m-head (q .0), m-tail (q .1))) (λ q. (m-tail (q .0), m-head (q .1))) o)) (meets-back x l t i u w b)
     go (inr q) = inr (m-tail (q .0), m-tail (q .1))
 
-pairUp-once : (l : List ℕ) (t : Table) → Within t → Distinct l → ((u w : ℕ) → Mem u l → Mem w l → Matched t u w → ⊥) → Distinct (t .matches) → Distinct (pairUp t l .matches)
+pairUp-once : (l : List ℕ) (t : Table) → NodesStand t → Distinct l → ((u w : ℕ) → Mem u l → Mem w l → Matched t u w → ⊥) → Distinct (t .matches) → Distinct (pairUp t l .matches)
 unfolding pairUp
 pairUp-once [] t i d n o = o
 pairUp-once (x ∷ l) t i d n o =
@@ -111,11 +111,11 @@ pairUp-once (x ∷ l) t i d n o =
 
 -- ---- all groups
 
-groups-within : (gs : List Group) (t : Table) → Within t → Within (paired t gs)
+groups-within : (gs : List Group) (t : Table) → NodesStand t → NodesStand (paired t gs)
 groups-within [] t i = i
 groups-within (g ∷ gs) t i = groups-within gs (pairUp t (g .sets)) (pairUp-within (g .sets) t i)
 
-groups-single : (r : Bytes) (gs : List Group) (t : Table) → Within t → Keys gs → Every (λ x l. label r x ≡ l) gs → Once gs → ((g : Group) → Mem g gs → (u w : ℕ) → Mem u (g .sets) → Mem w (g .sets) → Matched t u w → ⊥)
+groups-single : (r : Bytes) (gs : List Group) (t : Table) → NodesStand t → Keys gs → Every (λ x l. label r x ≡ l) gs → Once gs → ((g : Group) → Mem g gs → (u w : ℕ) → Mem u (g .sets) → Mem w (g .sets) → Matched t u w → ⊥)
     → Distinct (t .matches) → Distinct (paired t gs .matches)
 groups-single r [] t i k e o n d = d
 groups-single r (g ∷ gs) t i k e o n d =
@@ -125,8 +125,8 @@ groups-single r (g ∷ gs) t i k e o n d =
 
 -- ---- a whole size
 
-module _ (r : Bytes) (found : List ℕ) (t : Table) (i : Within t) where
-  pub extend-within : Within (extend r t found)
+module _ (r : Bytes) (found : List ℕ) (t : Table) (i : NodesStand t) where
+  pub extend-within : NodesStand (extend r t found)
   unfolding extend
   extend-within = groups-within (groups r found) t i
 

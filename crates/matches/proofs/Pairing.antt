@@ -15,9 +15,8 @@ use Rattle.molecule.specs.Lists.{Bytes, fold}
 use Rattle.molecule.proofs.Lists.{Ordered, ordered-append, ordered-all}
 use Rattle.canonize.specs.Strings.{lexLe}
 use Rattle.canonize.specs.Label.{label}
-use Rattle.canonize.proofs.Laws.{le-refl}
-use Rattle.canonize.proofs.Sorting.{lexle-turn}
-use Rattle.canonize.proofs.Lists.{Distinct}
+use Rattle.canonize.proofs.Laws.{le-refl, lexle-turn}
+use Rattle.molecule.proofs.Perms.{Distinct}
 use Rattle.matches.specs.Table.{Group, Match, Table, note, numberOf, meet, pairUp, groups, extend}
 use Rattle.matches.specs.Laws.{Twins}
 use Rattle.matches.proofs.Noting.{note-grows, note-old, note-new, note-distinct, number-is}

@@ -4,14 +4,15 @@ use mathlib.Core.Bool.{Bool}
 use mathlib.Core.List.{List, [], _∷_, _++_, List·Memᴰ as Mem, List·Memᴰ·head as m-head, List·Memᴰ·tail as m-tail}
 use Prim.Native.Nat.{ℕ, zero, suc, _+_, _-_, _*_, _≤_, _<_}
 use native.Mathlib.Omega.{arith}
-use lib.ListN.{length, getD, drop, length-map, List·getD-append}
+use lib.ListN.{length, getD, take, drop, length-map, List·getD-append}
+use lib.Seq.{getD-take}
 use Rattle.bitset.specs.Bits.{isDisjoint}
 use Rattle.molecule.specs.Lists.{Bytes, pick, filter}
 use Rattle.molecule.specs.Check.{accepted, check}
 use Rattle.molecule.proofs.Lists.{map-at}
 use Rattle.matches.specs.Table.{Match, Table, matchTable, Pair, pairsOf, pair, sizeOf, pairs}
-use Rattle.matches.specs.Descending.{countdown, withEach, descend, apartBelow, Starts}
-use Rattle.matches.specs.Written.{fourWords, wordsOf, startIn, matchesIn, StartsBefore, Recorded}
+use Rattle.matches.specs.Inner.Descending.{countdown, withEach, descend, apartBelow, Starts}
+use Rattle.matches.specs.Inner.Written.{fourWords, wordsOf, startIn, matchesIn, StartsBefore, Recorded}
 use Rattle.matches.proofs.Listed.{nodes-are, matches-are, sorted-sound}
 use Rattle.matches.proofs.Descending.{countdown-in, descending}
 
@@ -111,3 +112,14 @@ module _ (r : Bytes) (ok : check r ≡ accepted) (parts : List ℕ) (p count : �
     e ∙ ap length matches-in ∙ sym (pairs-length (matchTable r)),
     subst (λ (w : List ℕ). Recorded w (pairs r)) (sym (q ∙ ap (λ (w : List ℕ). w ++ drop (4 * m) old) words-in)) (table-recorded (matchTable r) (drop (4 * m) old)),
   )
+
+-- ---- the words in front
+
+-- the words of the matches and no others
+pub recorded-front : (words : List ℕ) (ms : List Pair) (n : ℕ) → 4 * length ms ≤ n → Recorded words ms → Recorded (take n words) ms
+recorded-front words ms n h w = record {
+  one = λ m l. getD-take n words (4 * m) 0 (omega arith) ∙ w .one m l;
+  other = λ m l. getD-take n words (4 * m + 1) 0 (omega arith) ∙ w .other m l;
+  both = λ m l. getD-take n words (4 * m + 2) 0 (omega arith) ∙ w .both m l;
+  sized = λ m l. getD-take n words (4 * m + 3) 0 (omega arith) ∙ w .sized m l;
+}

@@ -19,11 +19,10 @@ use Rattle.molecule.specs.Connected.{Touch, Own, Linked, here, step, Connected}
 use Rattle.molecule.proofs.Growing.{around-in}
 use Rattle.molecule.proofs.Touching.{touch-in}
 use Rattle.molecule.proofs.Components.{link-wide, link-join, link-sym}
-use Rattle.molecule.proofs.Lists.{at-mem, Ordered, ordered-all}
+use Rattle.molecule.proofs.Lists.{at-mem, Ordered, ordered-all, numbers-bounds, numbers-mem}
 use Rattle.canonize.specs.Strings.{lexLe}
 use Rattle.canonize.specs.Label.{label}
-use Rattle.canonize.proofs.Lists.{Distinct}
-use Rattle.canonize.proofs.OfRecords.{numbers-bounds, numbers-mem, numbers-distinct}
+use Rattle.molecule.proofs.Perms.{Distinct, numbers-distinct}
 use Rattle.matches.specs.Table.{Match, Table, extended, candidates, extend, sizes, singles}
 use Rattle.matches.specs.Laws.{Twins}
 use Rattle.matches.proofs.Noting.{all-in, all-has, all-distinct}

@@ -1,24 +1,22 @@
 -- What the memo's definition answers, by where the key is and what its entry says. Assumes nothing.
-use mathlib.Core.Path.{_≡_, refl, sym, ap, ap₂, subst, _∙_}
+use mathlib.Core.Path.{_≡_, refl, sym, ap, ap₂, _∙_}
 use mathlib.Core.Logic.{_≢_}
 use mathlib.Core.Bool.{Bool, true, false, not, _||_}
-use mathlib.Core.List.{List, [], _∷_, _++_, map}
-use Prim.Native.Nat.{ℕ, zero, suc, _+_, _*_, _/_, _≤_, _<_}
+use mathlib.Core.List.{List, [], _∷_, _++_}
+use Prim.Native.Nat.{ℕ, zero, suc, _+_, _*_, _/_, _%_, _≤_, _<_}
 use native.Mathlib.Omega.{arith}
 use lib.Dec.{ltb}
-use lib.ListN.{length, getD, set, take, drop, length-map}
+use lib.ListN.{length, getD, set}
 use borrow.Author.Tests.{lt-ltb, le-ltb}
 use Rattle.molecule.specs.Lists.{Bytes, first}
-use Rattle.molecule.proofs.Scans.{first-is, first-past, first-le}
-use Rattle.canonize.specs.Strings.{lexLe, sort}
-use Rattle.canonize.specs.Label.{label}
+use Rattle.molecule.proofs.Scans.{first-is, first-past}
+use Rattle.canonize.specs.Strings.{lexLe}
 use Rattle.search.specs.State.{State}
 use Rattle.search.specs.Memo.{Entry, sameKey, Memo, goes, stopped, full, recall, remember, keyOf, entryOf}
-use Rattle.memoize.specs.declared.Asked.{Asked}
 use Rattle.memoize.specs.declared.Asked.the-variants.{Goes, Stopped, Full}
-use Rattle.memoize.specs.Stored.{Fragments, Hashed, hashSum, none, Stored, Located, Put, Changed, entryWith, Answers}
-use Rattle.memoize.proofs.Keys.{key-same, key-differ, sort-length}
-use Rattle.memoize.proofs.Entries.{held-count, stored-put, stored-changed}
+use Rattle.memoize.specs.Inner.Stored.{removalsAt, EntryWords, none, Stored, Located, Filled, Put, entryWith, MemoAnswers}
+use Rattle.memoize.proofs.Keys.{key-same, key-differ}
+use Rattle.memoize.proofs.Entries.{stored-put, stored-changed}
 
 -- within the list the default does not matter
 getD-any : {A : Type 0} (l : List A) (i : ℕ) (a b : A) → i < length l → getD l i a ≡ getD l i b
@@ -28,11 +26,13 @@ getD-any (x ∷ l) (suc i) a b h = getD-any l i a b (omega arith)
 
 -- ---- the definition by cases
 
-recall-goes : (new old : Entry) (l : List Entry) → (ltb (new .index) (old .index) || not (lexLe (old .removals) (new .removals))) ≡ true → recall new old l ≡ goes l
+recall-goes : (new old : Entry) (l : List Entry) → (ltb (new .index) (old .index) || not (lexLe (old .removals) (new .removals))) ≡ true
+    → recall new old l ≡ goes l
 unfolding recall
 recall-goes new old l e = rw (e, recall)
 
-recall-stops : (new old : Entry) (l : List Entry) → (ltb (new .index) (old .index) || not (lexLe (old .removals) (new .removals))) ≡ false → recall new old l ≡ stopped
+recall-stops : (new old : Entry) (l : List Entry) → (ltb (new .index) (old .index) || not (lexLe (old .removals) (new .removals))) ≡ false
+    → recall new old l ≡ stopped
 unfolding recall
 recall-stops new old l e = rw (e, recall)
 
@@ -72,63 +72,59 @@ module _ (room : ℕ) (new : Entry) (memo : List Entry) (e : ℕ) (w : Located m
   unfolding remember rememberAt
   remember-at = refl
 
-  remember-known : e < length memo → ((i : ℕ) → i < e → getD memo i none .key ≢ getD memo e none .key) → remember room new memo ≡ recall new (getD memo e none) (set memo e new)
+  -- another key fails the test
+  test-fails : (i : ℕ) → i < length memo → getD memo i none .key ≢ new .key → test i ≡ false
+  test-fails i l n = test-is i l ∙ key-differ (new .key) (getD memo i none .key) (λ q. n (sym q))
+
+  remember-known : e < length memo → ((i : ℕ) → i < e → getD memo i none .key ≢ getD memo e none .key)
+      → remember room new memo ≡ recall new (getD memo e none) (set memo e new)
   remember-known l d =
+      let hit = test-is e l ∙ key-same (new .key) (getD memo e none .key) (sym (w .hit l)) in
       remember-at
-      ∙ ap (rememberAt room new memo) (first-is test (length memo) e l (test-is e l ∙ key-same (new .key) (getD memo e none .key) (sym (w .hit l))) (λ i g. test-is i (omega arith) ∙ key-differ (new .key) (getD memo i none .key) (λ q. d i g (sym q ∙ sym (w .hit l)))))
+      ∙ ap (rememberAt room new memo) (first-is test (length memo) e l hit (λ i g. test-fails i (omega arith) (λ q. d i g (q ∙ sym (w .hit l)))))
       ∙ at-known room new memo e l
       ∙ ap (λ (x : Entry). recall new x (set memo e new)) (getD-any memo e new none l)
 
   remember-new : length memo ≤ e → remember room new memo ≡ rememberNew room new memo
-  remember-new l =
-      remember-at
-      ∙ at-new room new memo (first test (length memo)) (first-past test (length memo) (λ i g. test-is i g ∙ key-differ (new .key) (getD memo i none .key) (λ q. w .none l i g (sym q))))
+  remember-new l = remember-at ∙ at-new room new memo (first test (length memo)) (first-past test (length memo) (λ i g. test-fails i g (w .none l i g)))
 
 -- ---- the answers
 
-module _ (r : Bytes) (old : List ℕ) (n : ℕ) (memo : List Entry) (s : Stored r old n memo) (pieces removals : List ℕ) (index e : ℕ) (w : Located memo (sort (map (label r) pieces)) e) where
-  abbrev new : Entry
-  new = entryWith r pieces index removals
-
-  -- the entry of the key has as many pieces
-  pub located-count : e < n → getD old (80 * e + 64) 0 ≡ length pieces
-  located-count l = sym (held-count (s .held e l)) ∙ ap length (w .hit (omega (arith, s .count))) ∙ sort-length (map (label r) pieces) ∙ length-map pieces (label r)
-
+module _ {r : Bytes} {old : List ℕ} {n : ℕ} {memo : List Entry} (s : Stored r old n memo)
+    {new : List ℕ} {x : Entry} (g : EntryWords r new 0 x) {e : ℕ} (w : Located memo (x .key) e) where
   module _ (l : e < n) where
-    known : remember (length old / 80) new memo ≡ recall new (getD memo e none) (set memo e new)
-    known = remember-known (length old / 80) new memo e w (omega (arith, s .count)) (λ i g. s .distinct i e g l)
+    known : remember (length old / 80) x memo ≡ recall x (getD memo e none) (set memo e x)
+    known = remember-known (length old / 80) x memo e w (omega (arith, s .count)) (λ i h. s .distinct i e h l)
 
-    -- what the entry's words say
-    test-words : (ltb index (getD old (80 * e + 66) 0) || not (lexLe (take (getD old (80 * e + 65) 0) (drop (80 * e + getD old (80 * e + 64) 0) old)) removals))
-        ≡ (ltb index (getD memo e none .index) || not (lexLe (getD memo e none .removals) removals))
-    test-words = ap₂ (λ (i : ℕ) (x : List ℕ). ltb index i || not (lexLe x removals)) (s .held e l .index) (s .held e l .removals)
+    -- what the words of the two entries say
+    test-words : (ltb (getD new 66 0) (getD old (80 * e + 66) 0) || not (lexLe (removalsAt old (80 * e)) (removalsAt new 0)))
+        ≡ (ltb (x .index) (getD memo e none .index) || not (lexLe (getD memo e none .removals) (x .removals)))
+    test-words =
+        let h = s .held e l in
+        ap₂ (λ (i : ℕ) (y : List ℕ). ltb (getD new 66 0) i || not (lexLe y (removalsAt new 0))) (h .index) (h .removals)
+        ∙ ap₂ (λ (i : ℕ) (y : List ℕ). ltb i (getD memo e none .index) || not (lexLe (getD memo e none .removals) y)) (g .index) (g .removals)
 
-    module _ (b : Bool) (t : b ≡ (ltb index (getD old (80 * e + 66) 0) || not (lexLe (take (getD old (80 * e + 65) 0) (drop (80 * e + getD old (80 * e + 64) 0) old)) removals))) where
-      pub answers-changed : b ≡ true → (now : List ℕ) → Changed old now e removals index → length pieces + length removals ≤ 32 → Answers r old now (Goes n) (remember (length old / 80) new memo)
-      answers-changed q now p few =
-          rw (known ∙ recall-goes new (getD memo e none) (set memo e new) (sym (t ∙ test-words) ∙ q))
-          (n, refl, stored-changed r old now n memo s e l pieces removals index p (rw (located-count l) few) (w .hit (omega (arith, s .count))))
+    module _ {b : Bool} (t : b ≡ (ltb (getD new 66 0) (getD old (80 * e + 66) 0) || not (lexLe (removalsAt old (80 * e)) (removalsAt new 0)))) where
+      pub answers-changed : b ≡ true → {now : List ℕ} → Filled old now (80 * e) 68 new → MemoAnswers r old now (Goes n) (remember (length old / 80) x memo)
+      answers-changed q {now} f =
+          rw (known ∙ recall-goes x (getD memo e none) (set memo e x) (sym (t ∙ test-words) ∙ q))
+          (n, refl, stored-changed s e l g f (w .hit (omega (arith, s .count))))
 
-      pub answers-stopped : b ≡ false → Answers r old old Stopped (remember (length old / 80) new memo)
-      answers-stopped q = rw (known ∙ recall-stops new (getD memo e none) (set memo e new) (sym (t ∙ test-words) ∙ q)) (refl, refl)
+      pub answers-stopped : b ≡ false → MemoAnswers r old old Stopped (remember (length old / 80) x memo)
+      answers-stopped q = rw (known ∙ recall-stops x (getD memo e none) (set memo e x) (sym (t ∙ test-words) ∙ q)) (refl, refl)
 
   module _ (l : n ≤ e) where
-    unknown : remember (length old / 80) new memo ≡ rememberNew (length old / 80) new memo
-    unknown = remember-new (length old / 80) new memo e w (omega (arith, s .count))
+    unknown : remember (length old / 80) x memo ≡ rememberNew (length old / 80) x memo
+    unknown = remember-new (length old / 80) x memo e w (omega (arith, s .count))
 
-    pub answers-put : n < length old / 80 → (now hashes : List ℕ) (total : ℕ) → Put old now n pieces hashes removals index total → length pieces + length removals ≤ 32 → Fragments r pieces → Hashed r pieces hashes
-        → total ≡ hashSum (map (label r) pieces) → Answers r old now (Goes (n + 1)) (remember (length old / 80) new memo)
-    answers-put room now hashes total p few fs hs sum =
-        rw (unknown ∙ new-goes (length old / 80) new memo (omega (arith, s .count)))
-        (n + 1, refl, stored-put r old now n memo s pieces hashes removals index total p room few fs hs sum (λ i g. w .none (omega (arith, s .count)) i (omega (arith, s .count))))
+    pub answers-put : n < length old / 80 → {now : List ℕ} → Put old now n (getD new 67 0 % (length old / 80)) new
+        → MemoAnswers r old now (Goes (n + 1)) (remember (length old / 80) x memo)
+    answers-put room {now} p =
+        rw (unknown ∙ new-goes (length old / 80) x memo (omega (arith, s .count)))
+        (n + 1, refl, stored-put s g p room (λ i h. w .none (omega (arith, s .count)) i (omega (arith, s .count))))
 
-    pub answers-full : length old / 80 ≤ n → Answers r old old Full (remember (length old / 80) new memo)
-    answers-full room = rw (unknown ∙ new-full (length old / 80) new memo (omega (arith, s .count))) (refl, refl)
-
--- pieces with the same labels get the same answer
-pub answers-same : (r : Bytes) (old now : List ℕ) (a : Asked) (room : ℕ) (sets pieces : List ℕ) (index : ℕ) (removals : List ℕ) (memo : List Entry) → map (label r) sets ≡ map (label r) pieces
-    → Answers r old now a (remember room (entryWith r sets index removals) memo) → Answers r old now a (remember room (entryWith r pieces index removals) memo)
-answers-same r old now a room sets pieces index removals memo e h = subst (λ (k : List Bytes). Answers r old now a (remember room (record { key = sort k; index = index; removals = removals }) memo)) e h
+    pub answers-full : length old / 80 ≤ n → MemoAnswers r old old Full (remember (length old / 80) x memo)
+    answers-full room = rw (unknown ∙ new-full (length old / 80) x memo (omega (arith, s .count))) (refl, refl)
 
 -- ---- a state's entry
 

@@ -1,14 +1,14 @@
--- The lexicographic order of a stored list and another, a place at a time. Assumes nothing.
+-- The lexicographic order of two lists, a place at a time. Assumes nothing.
 use mathlib.Core.Path.{_≡_, refl, sym, ap, ap₂, _∙_}
-use mathlib.Core.Bool.{Bool, true, false, not}
+use mathlib.Core.Bool.{true, false, not}
 use mathlib.Core.List.{List, [], _∷_}
-use Prim.Native.Nat.{ℕ, suc, _+_, _-_, _≤_, _<_}
+use Prim.Native.Nat.{ℕ, suc, _+_, _≤_, _<_}
 use native.Mathlib.Omega.{arith}
 use native.Mathlib.Numerals.{add-one}
-use lib.ListN.{length, getD, take, drop, drop-of-length-le, length-drop}
-use lib.Seq.{drop-cons, length-take-le, getD-take, getD-drop}
+use lib.ListN.{length, getD, drop, drop-of-length-le}
+use lib.Seq.{drop-cons}
 use Rattle.canonize.specs.Strings.{lexLe}
-use Rattle.canonize.proofs.Sorting.{lexle-below, lexle-above, lexle-same}
+use Rattle.canonize.proofs.Laws.{lex-nil, lex-ends, lex-head-less, lex-head-more, lex-head-same}
 
 -- the lists compare as what is left of them does
 pub record Even (x y : List ℕ) (i : ℕ) : Type 0 where
@@ -19,45 +19,35 @@ pub record Even (x y : List ℕ) (i : ℕ) : Type 0 where
 pub even-start : (x y : List ℕ) → Even x y 0
 even-start x y = record { first = omega arith; second = omega arith; is = refl }
 
--- the count words from place k on, against y
-module _ (words : List ℕ) (k count : ℕ) (y : List ℕ) (fits : k + count ≤ length words) where
-  abbrev x : List ℕ
-  x = take count (drop k words)
+module _ {x y : List ℕ} {i : ℕ} (w : Even x y i) where
+  pub even-done : length x ≤ i → false ≡ not (lexLe x y)
+  even-done h = ap not (sym (ap (λ (l : List ℕ). lexLe l (drop i y)) (drop-of-length-le x {i = i} h) ∙ lex-nil (drop i y)) ∙ w .is)
 
-  x-length : length x ≡ count
-  x-length = length-take-le count (drop k words) (omega (arith, length-drop k words))
+  module _ (h : i < length x) where
+    abbrev a : ℕ
+    a = getD x i 0
 
-  x-at : (i : ℕ) → i < count → getD x i 0 ≡ getD words (k + i) 0
-  x-at i h = getD-take count (drop k words) i 0 h ∙ getD-drop k words i 0
+    pub even-ends : i ≡ length y → true ≡ not (lexLe x y)
+    even-ends e =
+        let d : drop i y ≡ [] = drop-of-length-le y {i = i} (omega arith) in
+        ap not (sym (ap₂ lexLe (drop-cons x i 0 h) d ∙ lex-ends a (drop (suc i) x)) ∙ w .is)
 
-  module _ (i : ℕ) (w : Even x y i) where
-    pub even-done : count ≤ i → false ≡ not (lexLe x y)
-    unfolding lexLe
-    even-done h = let e : drop i x ≡ [] = drop-of-length-le x {i = i} (omega (arith, x-length)) in ap not (sym (ap (λ (l : List ℕ). lexLe l (drop i y)) e) ∙ w .is)
+    module _ (g : i < length y) where
+      abbrev b : ℕ
+      b = getD y i 0
 
-    module _ (h : i < count) where
-      head : drop i x ≡ getD words (k + i) 0 ∷ drop (suc i) x
-      head = drop-cons x i 0 (omega (arith, x-length)) ∙ ap (λ (z : ℕ). z ∷ drop (suc i) x) (x-at i h)
+      heads : lexLe x y ≡ lexLe (a ∷ drop (suc i) x) (b ∷ drop (suc i) y)
+      heads = sym (w .is) ∙ ap₂ lexLe (drop-cons x i 0 h) (drop-cons y i 0 g)
 
-      pub even-ends : i ≡ length y → true ≡ not (lexLe x y)
-      unfolding lexLe
-      even-ends e =
-          let d : drop i y ≡ [] = drop-of-length-le y {i = i} (omega arith) in
-          ap not (sym (ap₂ lexLe head d) ∙ w .is)
+      pub even-less : a < b → false ≡ not (lexLe x y)
+      even-less l = ap not (sym (heads ∙ lex-head-less a b (drop (suc i) x) (drop (suc i) y) l))
 
-      module _ (g : i < length y) where
-        heads : lexLe x y ≡ lexLe (getD words (k + i) 0 ∷ drop (suc i) x) (getD y i 0 ∷ drop (suc i) y)
-        heads = sym (w .is) ∙ ap₂ lexLe head (drop-cons y i 0 g)
+      pub even-more : b < a → true ≡ not (lexLe x y)
+      even-more l = ap not (sym (heads ∙ lex-head-more a b (drop (suc i) x) (drop (suc i) y) l))
 
-        pub even-less : getD words (k + i) 0 < getD y i 0 → false ≡ not (lexLe x y)
-        even-less l = ap not (sym (heads ∙ lexle-below (getD words (k + i) 0) (getD y i 0) (drop (suc i) x) (drop (suc i) y) l))
-
-        pub even-more : getD y i 0 < getD words (k + i) 0 → true ≡ not (lexLe x y)
-        even-more l = ap not (sym (heads ∙ lexle-above (getD words (k + i) 0) (getD y i 0) (drop (suc i) x) (drop (suc i) y) l))
-
-        pub even-next : getD words (k + i) 0 ≡ getD y i 0 → Even x y (i + 1)
-        even-next e = record {
-          first = omega (arith, x-length);
-          second = omega arith;
-          is = rw add-one (sym (heads ∙ lexle-same (getD words (k + i) 0) (getD y i 0) (drop (suc i) x) (drop (suc i) y) e));
-        }
+      pub even-next : a ≡ b → Even x y (i + 1)
+      even-next e = record {
+        first = omega arith;
+        second = omega arith;
+        is = rw add-one (sym (heads ∙ lex-head-same a b (drop (suc i) x) (drop (suc i) y) e));
+      }

@@ -1,2 +1,2 @@
--- The search's memo as the lent table keeps it.
-pub mod Stored
+-- What the memo's contracts speak of.
+pub mod Inner

@@ -12,7 +12,7 @@ use Rattle.bitset.proofs.Bools.{or-false}
 use Rattle.molecule.specs.Lists.{Bytes, first}
 use Rattle.molecule.specs.Record.{atoms, bonds, element, endA, endB, code}
 use Rattle.molecule.specs.Check.{Answer, accepted, refused, row, rowAt, badLength, badCounts, badElement, badCode, badEnds, reached, unreached, check}
-use Rattle.molecule.specs.Tree.{Sized, Formed}
+use Rattle.molecule.specs.Tree.{RightCounts, Formed}
 use Rattle.molecule.proofs.Scans.{first-none}
 
 -- ---- a row that does not turn back
@@ -49,7 +49,7 @@ module _ (r : Bytes) where
       let z : bonds r ≢ 0 = eqb-false (bonds r) 0 (d .0) in
       (omega arith, ltb-false 64 (bonds r) (d .1), eqb-true (atoms r) (bonds r + 1) (not-false (eqb (atoms r) (bonds r + 1)) (c .1)))
 
-  pub sized-of : badLength r ≡ false → badCounts r ≡ false → Sized r
+  pub sized-of : badLength r ≡ false → badCounts r ≡ false → RightCounts r
   sized-of l c = let w = counts-right c in record { long = length-right l; some = w .0; few = w .1; count = w .2 }
 
   pub element-right : (v : ℕ) → badElement r v ≡ false → (element r v ≢ 0) × (element r v ≢ 255)

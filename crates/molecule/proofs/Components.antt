@@ -15,12 +15,12 @@ use Rattle.bitset.specs.Bits.{bit, Sub, Disjoint, diff, size, unions, low}
 use Rattle.bitset.proofs.Bools.{and-true}
 use Rattle.bitset.proofs.Laws.{bit-le, bit-and, bit-diff, bit-empty, bit-one, sub-or, sub-trans, sub-anti, or-cases, unions-one, unions-of, member-lt, low-bit, low-least, size-mono, size-one, size-empty, size-disjoint, size-diff}
 use Rattle.bitset.proofs.Members.{diff-sub, in-or-out, sub-of, sub-in, or-left-in, or-right-in, diff-in, one-is, some-member, not-empty, apart-of}
-use Rattle.bitset.proofs.Decide.{sets, v, and, less, sub, apart}
+use Rattle.bitset.proofs.Decide.{sets, v, and, less, none, sub, apart, is}
 use Rattle.molecule.specs.Lists.{Bytes}
 use Rattle.molecule.specs.Record.{bonds, allBonds}
 use Rattle.molecule.specs.Touch.{touching, around, grow, reach, parts, isPart, component, components, connected, touchingWords}
 use Rattle.molecule.specs.Connected.{Touch, Own, Linked, here, step, Connected, Apart, Ascends}
-use Rattle.molecule.proofs.Growing.{Closed, around-in, more, reach-closed, reach-one, reach-sub, reach-same, parts-by, parts-same, isPart-same}
+use Rattle.molecule.proofs.Growing.{Closed, around-in, more, reach-closed, reach-one, reach-sub, reach-same, parts-by, parts-none, parts-step, parts-same, isPart-same}
 use Rattle.molecule.proofs.Lists.{list-at}
 use Rattle.molecule.proofs.Touching.{touch-sym}
 
@@ -337,3 +337,11 @@ module _ (r : Bytes) where
       go (inl e) (inr f) = rw (e, f) (step (here hb) t hc)
       go (inr e) (inl f) = rw (e, f) (step (here hc) (touch-sym r b c l t) hb)
       go (inr e) (inr f) = rw (e, f) (here hc)
+
+-- a connected set is its only component
+pub components-self : (r : Bytes) → bonds r ≤ 64 → (s : ℕ) → Own r s → Connected r s → components r s ≡ s ∷ []
+unfolding component components
+components-self r few s o k =
+    let e : reach (touching r) s (2 ^ low s) ≡ s = component-self r s (low s) k (low-in r few s o (k .some)) in
+    let z : diff s s ≡ 0 = sets [] (is (less (v 0) (v 0)) none) (s ∷ []) tt in
+    parts-step (touching r) s (k .some) (own-word r few s o) ∙ rw (e, z, parts-none (touching r))

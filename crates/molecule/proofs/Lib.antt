@@ -1,6 +1,8 @@
 -- The theory of the record and its graph.
 pub mod Scans
 pub mod Lists
+pub mod Perms
+pub mod SetLists
 pub mod Growing
 pub mod Waiting
 pub mod Touching

@@ -6,6 +6,7 @@ use mathlib.Core.List.{List, [], _∷_, _++_, map, append-assoc, List·Memᴰ as
 use Prim.Native.Nat.{ℕ, zero, suc, _+_, _≤_, _<_}
 use native.Mathlib.Omega.{arith}
 use native.Mathlib.Numerals.{add-one}
+use native.Mathlib.Decide.{ℕ-discrete}
 use lib.ListN.{replicate, getD, set, drop, length, length-append, length-drop}
 use lib.Seq.{drop-cons, set-at}
 use Rattle.bitset.proofs.Bools.{two}
@@ -198,3 +199,30 @@ front-put old now k done x w h = record {
 
 pub front-length : {A : Type 0} {old now : List A} {k : ℕ} {done : List A} → Front old now k done → k ≤ length old → length now ≡ length old
 front-length {old = old} {k = k} {done = done} w h = ap length (w .is) ∙ simp (length-append, length-drop) (omega (arith, w .count))
+
+-- ---- the numbers from k on
+
+pub numbers-none : (k : ℕ) → numbersFrom k 0 ≡ []
+unfolding numbersFrom
+numbers-none k = refl
+
+pub numbers-more : (k n : ℕ) → numbersFrom k (suc n) ≡ k ∷ numbersFrom (suc k) n
+unfolding numbersFrom
+numbers-more k n = refl
+
+-- they are from k to below k + n
+pub numbers-bounds : (n k : ℕ) {i : ℕ} → Mem i (numbersFrom k n) → (k ≤ i) × (i < k + n)
+unfolding numbersFrom
+numbers-bounds zero k m = absurd (not-nil m)
+numbers-bounds (suc n) k (m-head e) = (omega arith, omega arith)
+numbers-bounds (suc n) k (m-tail m) = let h = numbers-bounds n (suc k) m in (omega (arith, h .0), omega (arith, h .1))
+
+-- and each of these is one
+pub numbers-mem : (n k i : ℕ) → k ≤ i → i < k + n → Mem i (numbersFrom k n)
+unfolding numbersFrom
+numbers-mem zero k i a b = absurd (omega arith)
+numbers-mem (suc n) k i a b = go (ℕ-discrete i k) (numbers-mem n (suc k) i)
+  where
+    go : Dec (i ≡ k) → (suc k ≤ i → i < suc k + n → Mem i (numbersFrom (suc k) n)) → Mem i (k ∷ numbersFrom (suc k) n)
+    go (yes e) r = m-head e
+    go (no d) r = m-tail (r (omega arith) (omega arith))

@@ -1,15 +1,16 @@
 -- check's answer, row by row: what it is where a row's condition holds, and where it goes on. Assumes nothing.
 use mathlib.Core.Path.{_≡_, _∙_}
-use mathlib.Core.Logic.{_≢_}
+use mathlib.Core.Logic.{_≢_, _⊎_, inl, inr}
 use mathlib.Core.Bool.{Bool, true, false}
 use Prim.Native.Nat.{ℕ, _+_, _*_, _≤_, _<_}
 use native.Mathlib.Omega.{arith}
 use lib.ListN.{length}
+use lib.Dec.{ltb}
 use borrow.Author.Tests.{lt-ltb, le-ltb, eq-eqb, ne-eqb}
 use Rattle.molecule.specs.Lists.{Bytes, first}
 use Rattle.molecule.specs.Record.{atoms, bonds}
 use Rattle.molecule.specs.Check.{Answer, accepted, refused, row, rowAt, badLength, badCounts, badElement, badCode, badEnds, unreached, check}
-use Rattle.molecule.specs.Tree.{Sized, Formed}
+use Rattle.molecule.specs.Tree.{RightCounts, Formed}
 use Rattle.molecule.proofs.Scans.{first-none}
 use Rattle.molecule.proofs.Accepted.{ends-right}
 
@@ -68,7 +69,7 @@ module _ (r : Bytes) where
     unfolding badCounts row
     wrong-atoms n h q = right-length ∙ rw (ne-eqb (bonds r) 0 n, le-ltb 64 (bonds r) h, ne-eqb (atoms r) (bonds r + 1) q)
 
-  module _ (s : Sized r) where
+  module _ (s : RightCounts r) where
     pub past-2 : check r ≡ from3
     unfolding badCounts row
     past-2 = right-length (s .long) ∙ rw (ne-eqb (bonds r) 0 (omega (arith, s .some)), le-ltb 64 (bonds r) (s .few), eq-eqb (atoms r) (bonds r + 1) (s .count))
@@ -84,3 +85,13 @@ module _ (r : Bytes) where
 
     pub formed : bonds r ≤ first (badEnds r) (bonds r) → Formed r
     formed l = record { sized = s; ends = λ i h. ends-right r i (first-none (badEnds r) (bonds r) i l h) }
+
+-- a row turns back with its own number, or leaves it to what comes after it
+pub row-back : (k p : ℕ) (fault : Bool) (next : Answer) (j q : ℕ) → row k p fault next ≡ refused j q → (k ≡ j) ⊎ (next ≡ refused j q)
+unfolding row
+row-back k p true next j q e = inl (cc)
+row-back k p false next j q e = inr e
+
+pub rowAt-back : (k : ℕ) (fault : ℕ → Bool) (n : ℕ) (next : Answer) (j q : ℕ) → rowAt k fault n next ≡ refused j q → (k ≡ j) ⊎ (next ≡ refused j q)
+unfolding rowAt
+rowAt-back k fault n next j q e = row-back k (first fault n) (ltb (first fault n) n) next j q e

@@ -19,18 +19,18 @@ record Found (p : ℕ → Bool) (k n x : ℕ) : Type 0 where
 module _ (p : ℕ → Bool) where
   -- ---- a loop's turns
 
-  scan-hit : (i n : ℕ) → i < n → p i ≡ true → firstFrom p i (n - i) ≡ i
+  pub scan-hit : (i n : ℕ) → i < n → p i ≡ true → firstFrom p i (n - i) ≡ i
   unfolding firstFrom
   scan-hit i n l e = let s : n - i ≡ suc (n - (i + 1)) = omega arith in rw (s, firstFrom, e)
 
-  scan-next : (i n : ℕ) → i < n → p i ≡ false → firstFrom p i (n - i) ≡ firstFrom p (i + 1) (n - (i + 1))
+  pub scan-next : (i n : ℕ) → i < n → p i ≡ false → firstFrom p i (n - i) ≡ firstFrom p (i + 1) (n - (i + 1))
   unfolding firstFrom
   scan-next i n l e =
       let s : n - i ≡ suc (n - (i + 1)) = omega arith in
       let t : i + 1 ≡ suc i = omega arith in
       rw (s, firstFrom, e, t)
 
-  scan-done : (n : ℕ) → firstFrom p n (n - n) ≡ n
+  pub scan-done : (n : ℕ) → firstFrom p n (n - n) ≡ n
   unfolding firstFrom
   scan-done n = rw (sub-self n)
 
@@ -101,7 +101,7 @@ module _ (p : ℕ → Bool) where
       go (no a) = omega arith
 
 -- tests that agree below n find the same
-from-cong : (p q : ℕ → Bool) (k f : ℕ) → ((i : ℕ) → k ≤ i → i < k + f → p i ≡ q i) → firstFrom p k f ≡ firstFrom q k f
+pub from-cong : (p q : ℕ → Bool) (k f : ℕ) → ((i : ℕ) → k ≤ i → i < k + f → p i ≡ q i) → firstFrom p k f ≡ firstFrom q k f
 unfolding firstFrom
 from-cong p q k zero h = refl
 from-cong p q k (suc f) h =
@@ -110,3 +110,11 @@ from-cong p q k (suc f) h =
 
 pub first-cong : (p q : ℕ → Bool) (n : ℕ) → ((i : ℕ) → i < n → p i ≡ q i) → first p n ≡ first q n
 first-cong p q n h = from-cong p q 0 n (λ i a b. h i (omega arith))
+
+-- from k on: of no numbers none passes, and none before the first that passes does
+pub from-none : (p : ℕ → Bool) (k : ℕ) → firstFrom p k 0 ≡ k
+unfolding firstFrom
+from-none p k = refl
+
+pub from-before : (p : ℕ → Bool) (k f j : ℕ) → k ≤ j → j < firstFrom p k f → p j ≡ false
+from-before p k f = found p k f .before

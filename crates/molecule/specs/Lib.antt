@@ -6,4 +6,5 @@ pub mod Check
 pub mod Verdict
 pub mod Connected
 pub mod Tree
+pub mod Inner
 pub mod Examples

@@ -8,7 +8,7 @@ use Rattle.molecule.specs.Lists.{Bytes}
 use Rattle.molecule.specs.Record.{atoms, bonds, element, endA, endB, code, allBonds}
 
 -- the bytes are there, and the counts are right (rows 1 and 2)
-pub record Sized (r : Bytes) : Type 0 where
+pub record RightCounts (r : Bytes) : Type 0 where
   pub long : length r ≡ 2 + atoms r + 3 * bonds r
   pub some : 1 ≤ bonds r
   pub few : bonds r ≤ 64
@@ -16,7 +16,7 @@ pub record Sized (r : Bytes) : Type 0 where
 
 -- every bond has two ends among the atoms (row 5)
 pub record Formed (r : Bytes) : Type 0 where
-  pub sized : Sized r
+  pub sized : RightCounts r
   pub ends : (i : ℕ) → i < bonds r → (endA r i < atoms r) × (endB r i < atoms r) × (endA r i ≢ endB r i)
 
 -- bond i joins atoms u and v

@@ -3,7 +3,7 @@ ghost use mathlib.Core.Path.{_≡_};
 ghost use Prim.Native.Nat.{_≤_, _<_};
 ghost use lib.ListN.{length};
 ghost use Rattle.molecule.specs.Record.{atoms, bonds, element, endA, endB, code};
-ghost use Rattle.molecule.specs.Tree.{Sized};
+ghost use Rattle.molecule.specs.Tree.{RightCounts};
 
 // A byte as a number of atoms or bonds.
 fn wide(x: u8) -> usize
@@ -30,7 +30,7 @@ pub fn bonds(bytes: &[u8]) -> usize
 
 // The element code of atom v.
 pub fn element(bytes: &[u8], v: usize) -> u8
-    requires { ⌜ Sized (now bytes) × (v < atoms (now bytes)) ⌝ }
+    requires { ⌜ RightCounts (now bytes) × (v < atoms (now bytes)) ⌝ }
     ensures { λ r. ⌜ r ≡ element (now (bytes .entry)) v ⌝ }
 {
     bytes[2 + v]
@@ -38,7 +38,7 @@ pub fn element(bytes: &[u8], v: usize) -> u8
 
 // The first end of bond i.
 pub fn end_a(bytes: &[u8], i: usize) -> usize
-    requires { ⌜ Sized (now bytes) × (i < bonds (now bytes)) ⌝ }
+    requires { ⌜ RightCounts (now bytes) × (i < bonds (now bytes)) ⌝ }
     ensures { λ r. ⌜ r ≡ endA (now (bytes .entry)) i ⌝ }
 {
     wide(bytes[2 + atoms(bytes) + 2 * i])
@@ -46,7 +46,7 @@ pub fn end_a(bytes: &[u8], i: usize) -> usize
 
 // The second end of bond i.
 pub fn end_b(bytes: &[u8], i: usize) -> usize
-    requires { ⌜ Sized (now bytes) × (i < bonds (now bytes)) ⌝ }
+    requires { ⌜ RightCounts (now bytes) × (i < bonds (now bytes)) ⌝ }
     ensures { λ r. ⌜ r ≡ endB (now (bytes .entry)) i ⌝ }
 {
     wide(bytes[3 + atoms(bytes) + 2 * i])
@@ -54,7 +54,7 @@ pub fn end_b(bytes: &[u8], i: usize) -> usize
 
 // The bond code of bond i.
 pub fn code(bytes: &[u8], i: usize) -> u8
-    requires { ⌜ Sized (now bytes) × (i < bonds (now bytes)) ⌝ }
+    requires { ⌜ RightCounts (now bytes) × (i < bonds (now bytes)) ⌝ }
     ensures { λ r. ⌜ r ≡ code (now (bytes .entry)) i ⌝ }
 {
     bytes[2 + atoms(bytes) + 2 * bonds(bytes) + i]

@@ -1,11 +1,9 @@
 // The graph of a record's bonds: which bonds touch, and the components of a set of bonds (src/utils.rs).
 ghost use mathlib.Core.Path.{_≡_};
-ghost use Prim.Native.Nat.{ℕ, _^_, _≤_, _<_};
-ghost use mathlib.Core.List.{_++_};
-ghost use lib.ListN.{length, getD, drop};
-ghost use Rattle.bitset.specs.Bits.{size};
+ghost use Prim.Native.Nat.{ℕ, _^_, _<_};
+ghost use lib.ListN.{getD};
 ghost use Rattle.molecule.specs.Record.{bonds};
-ghost use Rattle.molecule.specs.Touch.{around, reach, parts, isPart, touching, bondsAtWords, touchingWords};
+ghost use Rattle.molecule.specs.Touch.{around, reach, isPart, touching, bondsAtWords, touchingWords};
 ghost use Rattle.molecule.specs.Tree.{Formed};
 use crate::fields;
 
@@ -53,15 +51,6 @@ pub fn touching_from(bytes: &[u8], at: &[u64; 65]) -> [u64; 64]
     touch
 }
 
-// For each bond the bonds that touch it.
-pub fn touching_words(bytes: &[u8]) -> [u64; 64]
-    requires { ⌜ Formed (now bytes) ⌝ }
-    ensures { λ r. ⌜ r ≡ touchingWords (now (bytes .entry)) ⌝ }
-{
-    let at = bonds_at(bytes);
-    touching_from(bytes, &at)
-}
-
 // The bonds outside s that are next to a bond of s.
 pub fn around(touch: &[u64; 64], s: u64) -> u64
     ensures { λ r. ⌜ r ≡ around (λ (i : ℕ). getD (now (touch .entry)) i 0) s ⌝ }
@@ -97,23 +86,6 @@ pub fn component(touch: &[u64; 64], s: u64, b: u32) -> u64
     ensures { λ r. ⌜ r ≡ reach (λ (i : ℕ). getD (now (touch .entry)) i 0) s (2 ^ b) ⌝ }
 {
     reach(touch, s, bitset::single(b))
-}
-
-// The components of s, ascending by their lowest bonds, go to the front of out; the answer is how many there are.
-pub fn connected_components_under_edges(touch: &[u64; 64], s: u64, out: &mut [u64]) -> usize
-    requires { ⌜ size s ≤ length (now out) ⌝ }
-    ensures count { λ r. ⌜ r ≡ length (parts (λ (i : ℕ). getD (now (touch .entry)) i 0) s) ⌝ }
-    ensures holds { λ r. ⌜ now (out .exit) ≡ parts (λ (i : ℕ). getD (now (touch .entry)) i 0) s ++ drop r (now (out .entry)) ⌝ }
-{
-    let mut rest = s;
-    let mut k = 0;
-    while rest != 0 {
-        let c = component(touch, rest, bitset::lowest(rest));
-        out[k] = c;
-        k += 1;
-        rest = bitset::difference(rest, c);
-    }
-    k
 }
 
 // Whether s is connected: not empty, and one component.

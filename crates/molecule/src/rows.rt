@@ -1,24 +1,20 @@
 // The scans of rows 3 to 6: each answers the lowest number at fault, or how many there are.
 ghost use mathlib.Core.Path.{_≡_};
+ghost use Prim.Native.Nat.{_+_, _≤_};
+ghost use lib.ListN.{length};
 ghost use Rattle.molecule.specs.Lists.{first};
 ghost use Rattle.molecule.specs.Record.{atoms, bonds};
-ghost use Rattle.molecule.specs.Check.{wrongElement, wrongCode, wrongEnds, badElement, badCode, badEnds, unreached};
-ghost use Rattle.molecule.specs.Tree.{Sized, Formed};
+ghost use Rattle.molecule.specs.Check.{wrongEnds, badElement, badCode, badEnds, unreached};
+ghost use Rattle.molecule.specs.Inner.Codes.{wrongBeyond, badBeyond};
+ghost use Rattle.molecule.specs.Tree.{RightCounts, Formed};
 use crate::fields;
 use crate::graph;
 
-// An element code that row 3 turns back.
-fn wrong_element(e: u8) -> bool
-    ensures { λ r. ⌜ r ≡ wrongElement e ⌝ }
+// A code that is 0 or above most.
+fn wrong_beyond(c: u8, most: u8) -> bool
+    ensures { λ r. ⌜ r ≡ wrongBeyond most c ⌝ }
 {
-    e == 0 || e == 255
-}
-
-// A bond code that row 4 turns back.
-fn wrong_code(c: u8) -> bool
-    ensures { λ r. ⌜ r ≡ wrongCode c ⌝ }
-{
-    c == 0 || 3 < c
+    c == 0 || most < c
 }
 
 // The ends of a bond, of a atoms, that row 5 turns back.
@@ -34,37 +30,17 @@ fn wrong_ends(a: usize, u: usize, v: usize) -> bool
     u == v
 }
 
-// Row 3: the lowest atom with a wrong element code.
-pub fn first_bad_element(bytes: &[u8]) -> usize
-    requires { ⌜ Sized (now bytes) ⌝ }
-    ensures { λ r. ⌜ r ≡ first (badElement (now (bytes .entry))) (atoms (now (bytes .entry))) ⌝ }
+// Of n codes from a place on the number of the first that is 0 or above most, or n.
+fn first_bad(bytes: &[u8], from: usize, n: usize, most: u8) -> usize
+    requires { ⌜ from + n ≤ length (now bytes) ⌝ }
+    ensures { λ r. ⌜ r ≡ first (badBeyond (now (bytes .entry)) from most) n ⌝ }
 {
-    let a = fields::atoms(bytes);
-    let mut v = 0;
-    let bad = loop {
-        if v == a {
-            break a;
-        }
-        if wrong_element(fields::element(bytes, v)) {
-            break v;
-        }
-        v += 1;
-    };
-    bad
-}
-
-// Row 4: the lowest bond with a wrong bond code.
-pub fn first_bad_code(bytes: &[u8]) -> usize
-    requires { ⌜ Sized (now bytes) ⌝ }
-    ensures { λ r. ⌜ r ≡ first (badCode (now (bytes .entry))) (bonds (now (bytes .entry))) ⌝ }
-{
-    let n = fields::bonds(bytes);
     let mut i = 0;
     let bad = loop {
         if i == n {
             break n;
         }
-        if wrong_code(fields::code(bytes, i)) {
+        if wrong_beyond(bytes[from + i], most) {
             break i;
         }
         i += 1;
@@ -72,9 +48,26 @@ pub fn first_bad_code(bytes: &[u8]) -> usize
     bad
 }
 
+// Row 3: the lowest atom with a wrong element code.
+pub fn first_bad_element(bytes: &[u8]) -> usize
+    requires { ⌜ RightCounts (now bytes) ⌝ }
+    ensures { λ r. ⌜ r ≡ first (badElement (now (bytes .entry))) (atoms (now (bytes .entry))) ⌝ }
+{
+    first_bad(bytes, 2, fields::atoms(bytes), 254)
+}
+
+// Row 4: the lowest bond with a wrong bond code.
+pub fn first_bad_code(bytes: &[u8]) -> usize
+    requires { ⌜ RightCounts (now bytes) ⌝ }
+    ensures { λ r. ⌜ r ≡ first (badCode (now (bytes .entry))) (bonds (now (bytes .entry))) ⌝ }
+{
+    let n = fields::bonds(bytes);
+    first_bad(bytes, 2 + fields::atoms(bytes) + 2 * n, n, 3)
+}
+
 // Row 5: the lowest bond with wrong ends.
 pub fn first_bad_ends(bytes: &[u8]) -> usize
-    requires { ⌜ Sized (now bytes) ⌝ }
+    requires { ⌜ RightCounts (now bytes) ⌝ }
     ensures { λ r. ⌜ r ≡ first (badEnds (now (bytes .entry))) (bonds (now (bytes .entry))) ⌝ }
 {
     let a = fields::atoms(bytes);

@@ -1,2 +1,2 @@
--- The code's outcomes as those of the search's definition.
-pub mod Follows
+-- What contracts of inner functions and proofs use.
+pub mod Inner

@@ -1,41 +1,40 @@
 // The search (src/assembly.rs): a state is entered, counted, and left with its answer.
 ghost use mathlib.Core.Path.{_≡_};
 ghost use mathlib.Core.List.{List};
-ghost use Prim.Native.Nat.{_≤_, _<_};
+ghost use Prim.Native.Nat.{_≤_};
 ghost use lib.ListN.{length};
-ghost use Rattle.canonize.specs.Buffers.{Slots};
+ghost use Rattle.canonize.specs.Inner.Slate.{Slate};
 ghost use Rattle.search.specs.Setting.{memoRoom};
 ghost use Rattle.search.specs.Memo.{Entry};
-ghost use Rattle.branch.specs.Entered.{Entered};
-ghost use Rattle.desk.specs.Cached.{Cached, Lent};
-ghost use Rattle.memoize.specs.Stored.{Stored};
-ghost use Rattle.recurse.specs.Follows.{Ready, Starts, Visited, Found, IntStops, Gated, Own, betterOf, Lowered};
+ghost use Rattle.branch.specs.Inner.Entered.{Entered};
+ghost use Rattle.desk.specs.Inner.Cached.{Cached, Lent};
+ghost use Rattle.memoize.specs.Inner.Stored.{Stored};
+ghost use Rattle.recurse.specs.Inner.Follows.{MayEnter, MayStart, Visited, Searches, IntStops, gateOf, Gated, OwnAnswer, OutcomeAtOnce, betterOf, Lowered};
 use memoize::Asked;
+use search::Setting;
 use state::State;
 
-// Bounds (0 to 3: 1 is Int, 2 is MatchableEdges, 3 both), memo (0 or 1) and the budget of states.
-pub struct Setting {
-    pub bounds: u32,
-    pub memo: u32,
-    pub budget: u32,
+// What is carried from state to state: best, the states entered, and how many entries the memo has.
+pub struct Run {
+    pub best: u32,
+    pub states: u32,
+    pub entries: usize,
 }
 
-// Row 0 with an answer and its trail, so many numbers, and best, the states entered and the memo's entries then; or row 11 or 12 with its place.
+// Row 0 with an answer and its trail, so many numbers, and what is carried then; or row 11 or 12 with its place.
 pub struct Outcome {
     pub row: u32,
     pub place: u64,
     pub answer: u32,
     pub trail: [u32; 32],
     pub length: usize,
-    pub best: u32,
-    pub states: u32,
-    pub entries: usize,
+    pub run: Run,
 }
 
-// A state that is entered goes on, with so many entries in the memo; is stopped; or ends the search on a row.
+// A state that is entered goes on or is stopped, with what is carried then; or it ends the search on a row.
 pub enum Gate {
-    Goes(usize),
-    Stops,
+    Goes(Run),
+    Stops(Run),
     Ends(u32, u64),
 }
 
@@ -53,6 +52,21 @@ fn int_stops(bounds: u32, s: State, best: u32) -> bool
     best as u64 + j as u64 <= s.index as u64
 }
 
+// Where the memo's answer leads a state that has been counted.
+fn passed(asked: Asked, run: Run) -> Gate
+    ensures { λ r. ⌜ r ≡ gateOf asked run ⌝ }
+{
+    match asked {
+        Asked::Stopped => Gate::Stops(run),
+        Asked::Full => Gate::Ends(12, run.states as u64),
+        Asked::Goes(e) => Gate::Goes(Run {
+            best: run.best,
+            states: run.states,
+            entries: e,
+        }),
+    }
+}
+
 // Enters a state within the budget; Int or the memo may stop it.
 fn enter(
     bytes: &[u8],
@@ -60,59 +74,47 @@ fn enter(
     setting: Setting,
     memo: &mut [u64],
     desk: &mut [u64],
-    arena: &mut [u8],
-    lengths: &mut [usize],
-    scratch: &mut [u8],
-    own: &mut [u8],
-    other: &mut [u8],
+    slate: &mut [u8],
     s: State,
-    best: u32,
-    states: u32,
-    entries: usize,
+    run: Run,
 ) -> Gate
-    requires { ⌜ Entered (now bytes) s × Lent (now bytes) (now at) (now desk) (now arena) (now lengths) (now scratch) (now own) × (389 ≤ length (now other)) × ((m : List Entry) × Stored (now bytes) (now memo) entries m) ⌝ }
-    ensures gated { λ r. ⌜ ((m : List Entry) → Stored (now (bytes .entry)) (now (memo .entry)) entries m → Gated (now (bytes .entry)) setting (memoRoom (length (now (memo .entry)))) s best states entries m (now (memo .exit)) r) ⌝ }
+    requires { ⌜ Entered (now bytes) s × Lent (now bytes) (now at) (now desk) (now slate) × ((m : List Entry)
+        × Stored (now bytes) (now memo) (run .entries) m) ⌝ }
+    ensures gated { λ r. ⌜ ((m : List Entry) → Stored (now (bytes .entry)) (now (memo .entry)) (run .entries) m
+        → Gated (now (bytes .entry)) setting (memoRoom (length (now (memo .entry)))) s run m (now (memo .exit)) r) ⌝ }
     ensures cached { λ r. ⌜ Cached (now (bytes .entry)) (now (desk .exit)) ⌝ }
-    ensures slots { λ r. ⌜ Slots (now (arena .exit)) (now (lengths .exit)) ⌝ }
+    ensures slate { λ r. ⌜ Slate (now (slate .exit)) ⌝ }
 {
-    if setting.budget <= states {
+    if setting.budget <= run.states {
         return Gate::Ends(11, setting.budget as u64);
     }
-    if int_stops(setting.bounds, s, best) {
-        return Gate::Stops;
+    let next = Run {
+        best: run.best,
+        states: run.states + 1,
+        entries: run.entries,
+    };
+    if int_stops(setting.bounds, s, run.best) {
+        return Gate::Stops(next);
     }
     if setting.memo != 1 {
-        return Gate::Goes(entries);
+        return Gate::Goes(next);
     }
     let pieces = s.pieces;
     let n = s.count;
     let removals = s.removals;
     let k = s.removed;
-    match memoize::ask(
+    let asked = memoize::ask(
         bytes,
         at,
         memo,
-        entries,
+        run.entries,
         &pieces[0..n],
         s.index,
         &removals[0..k],
         desk,
-        arena,
-        lengths,
-        scratch,
-        own,
-        other,
-    ) {
-        Asked::Stopped => {
-            return Gate::Stops;
-        }
-        Asked::Full => {
-            return Gate::Ends(12, states as u64 + 1);
-        }
-        Asked::Goes(e) => {
-            return Gate::Goes(e);
-        }
-    }
+        slate,
+    );
+    passed(asked, next)
 }
 
 // The outcome on a row.
@@ -125,15 +127,17 @@ fn halted(row: u32, place: u64) -> Outcome
         answer: 0,
         trail: [0u32; 32],
         length: 0,
-        best: 0,
-        states: 0,
-        entries: 0,
+        run: Run {
+            best: 0,
+            states: 0,
+            entries: 0,
+        },
     }
 }
 
 // A state's own index and removals as its answer.
-fn own_answer(s: State, best: u32, states: u32, entries: usize) -> Outcome
-    ensures { λ r. ⌜ Own s best states entries r ⌝ }
+fn own_answer(s: State, run: Run) -> Outcome
+    ensures { λ r. ⌜ OwnAnswer s run r ⌝ }
 {
     let trail = s.removals;
     Outcome {
@@ -142,23 +146,31 @@ fn own_answer(s: State, best: u32, states: u32, entries: usize) -> Outcome
         answer: s.index,
         trail: trail,
         length: s.removed,
-        best: best,
-        states: states,
-        entries: entries,
+        run: run,
     }
 }
 
-// What is found so far, after a child's answer: best, states and entries are the child's, and its answer where it is less.
+// The outcome of a state before any child: on a row, or with its own answer.
+fn shut(gate: Gate, s: State) -> Outcome
+    ensures { λ r. ⌜ OutcomeAtOnce s r gate ⌝ }
+{
+    match gate {
+        Gate::Ends(n, p) => halted(n, p),
+        Gate::Stops(run) => own_answer(s, run),
+        Gate::Goes(run) => own_answer(s, run),
+    }
+}
+
+// What is found so far, after a child's answer: what is carried is the child's, and the answer where it is less.
 fn better(found: Outcome, child: Outcome) -> Outcome
     ensures { λ r. ⌜ r ≡ betterOf found child ⌝ }
 {
     if child.answer < found.answer {
         return child;
     }
+    let run = child.run;
     let mut r = found;
-    r.best = child.best;
-    r.states = child.states;
-    r.entries = child.entries;
+    r.run = run;
     r
 }
 
@@ -166,98 +178,57 @@ fn better(found: Outcome, child: Outcome) -> Outcome
 fn lowered(found: Outcome) -> Outcome
     ensures { λ r. ⌜ Lowered found r ⌝ }
 {
-    if found.best <= found.answer {
+    let mut run = found.run;
+    if run.best <= found.answer {
         return found;
     }
+    run.best = found.answer;
     let mut r = found;
-    r.best = found.answer;
+    r.run = run;
     r
 }
 
-// Enters a state and, unless it is stopped, each child in turn, with best, states and entries as they are then; at the end best is lowered to the least answer.
+// Enters a state and, unless it is stopped, each child in turn, with what is carried then; at the end best is lowered to the least answer.
 fn visit(
     bytes: &[u8],
     at: &[u64; 65],
     touch: &[u64; 64],
     pairs: &[u64],
-    matches: usize,
     setting: Setting,
     memo: &mut [u64],
     desk: &mut [u64],
-    arena: &mut [u8],
-    lengths: &mut [usize],
-    scratch: &mut [u8],
-    own: &mut [u8],
-    other: &mut [u8],
+    slate: &mut [u8],
     s: State,
-    best: u32,
-    states: u32,
-    entries: usize,
+    run: Run,
 ) -> Outcome
-    requires { ⌜ Ready (now bytes) (now at) (now touch) (now pairs) matches (now memo) (now desk) (now arena) (now lengths) (now scratch) (now own) (now other) s best entries ⌝ }
-    ensures follows { λ r. ⌜ ((m : List Entry) → Stored (now (bytes .entry)) (now (memo .entry)) entries m → Visited (now (bytes .entry)) setting (memoRoom (length (now (memo .entry)))) s best states m r (now (memo .exit))) ⌝ }
+    requires { ⌜ MayEnter (now bytes) (now at) (now touch) (now pairs) (now memo) (now desk) (now slate) s run ⌝ }
+    ensures follows { λ r. ⌜ ((m : List Entry) → Stored (now (bytes .entry)) (now (memo .entry)) (run .entries) m
+        → Visited (now (bytes .entry)) setting (memoRoom (length (now (memo .entry)))) s run m r (now (memo .exit))) ⌝ }
     ensures cached { λ r. ⌜ Cached (now (bytes .entry)) (now (desk .exit)) ⌝ }
-    ensures slots { λ r. ⌜ Slots (now (arena .exit)) (now (lengths .exit)) ⌝ }
+    ensures slate { λ r. ⌜ Slate (now (slate .exit)) ⌝ }
 {
-    match enter(
-        bytes,
-        at,
-        setting,
-        memo,
-        desk,
-        arena,
-        lengths,
-        scratch,
-        own,
-        other,
-        s,
-        best,
-        states,
-        entries,
-    ) {
-        Gate::Ends(n, p) => {
-            return halted(n, p);
+    let gate = enter(bytes, at, setting, memo, desk, slate, s, run);
+    let mut found = shut(gate, s);
+    let Gate::Goes(next) = gate else {
+        return found;
+    };
+    let matches = pairs.len() / 4;
+    let b = branch::branch_of(touch, pairs, matches, setting.bounds, s, next.best);
+    let owners = b.own;
+    let held = b.held;
+    let k = b.count;
+    let mut m = branch::next(pairs, b.first, matches, &owners, b.all, b.least);
+    while m < matches {
+        let c = branch::below(touch, pairs, s, &held[0..k], m);
+        let last = found.run;
+        let g = visit(bytes, at, touch, pairs, setting, memo, desk, slate, c, last);
+        if g.row != 0 {
+            return g;
         }
-        Gate::Stops => {
-            return own_answer(s, best, states + 1, entries);
-        }
-        Gate::Goes(e) => {
-            let b = branch::branch_of(touch, pairs, matches, setting.bounds, s, best);
-            let owners = b.own;
-            let held = b.held;
-            let k = b.count;
-            let mut found = own_answer(s, best, states + 1, e);
-            let mut m = branch::next(pairs, b.first, matches, &owners, b.all, b.least);
-            while m < matches {
-                let c = branch::below(touch, pairs, s, &held[0..k], m);
-                let g = visit(
-                    bytes,
-                    at,
-                    touch,
-                    pairs,
-                    matches,
-                    setting,
-                    memo,
-                    desk,
-                    arena,
-                    lengths,
-                    scratch,
-                    own,
-                    other,
-                    c,
-                    found.best,
-                    found.states,
-                    found.entries,
-                );
-                if g.row != 0 {
-                    return g;
-                }
-                found = better(found, g);
-                m = branch::next(pairs, m + 1, matches, &owners, b.all, b.least);
-            }
-            return lowered(found);
-        }
+        found = better(found, g);
+        m = branch::next(pairs, m + 1, matches, &owners, b.all, b.least);
     }
+    lowered(found)
 }
 
 // The search of a record of n bonds, from the root and with best n - 1.
@@ -266,40 +237,20 @@ pub fn search(
     at: &[u64; 65],
     touch: &[u64; 64],
     pairs: &[u64],
-    matches: usize,
     setting: Setting,
-    n: usize,
     memo: &mut [u64],
     desk: &mut [u64],
-    arena: &mut [u8],
-    lengths: &mut [usize],
-    scratch: &mut [u8],
-    own: &mut [u8],
-    other: &mut [u8],
+    slate: &mut [u8],
+    n: usize,
 ) -> Outcome
-    requires { ⌜ Starts (now bytes) (now at) (now touch) (now pairs) matches n (now memo) (now desk) (now arena) (now lengths) (now scratch) (now own) (now other) ⌝ }
-    ensures follows { λ r. ⌜ Found (now (bytes .entry)) setting (memoRoom (length (now (memo .entry)))) r (now (memo .exit)) ⌝ }
-    ensures cached { λ r. ⌜ Cached (now (bytes .entry)) (now (desk .exit)) ⌝ }
-    ensures slots { λ r. ⌜ Slots (now (arena .exit)) (now (lengths .exit)) ⌝ }
+    requires { ⌜ MayStart (now bytes) (now at) (now touch) (now pairs) (now memo) (now desk) (now slate) n ⌝ }
+    ensures follows { λ r. ⌜ Searches (now (bytes .entry)) setting (memoRoom (length (now (memo .entry)))) r (now (memo .exit)) ⌝ }
 {
     let s = state::root(n);
-    visit(
-        bytes,
-        at,
-        touch,
-        pairs,
-        matches,
-        setting,
-        memo,
-        desk,
-        arena,
-        lengths,
-        scratch,
-        own,
-        other,
-        s,
-        n as u32 - 1,
-        0,
-        0,
-    )
+    let run = Run {
+        best: n as u32 - 1,
+        states: 0,
+        entries: 0,
+    };
+    visit(bytes, at, touch, pairs, setting, memo, desk, slate, s, run)
 }

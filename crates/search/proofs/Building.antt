@@ -18,7 +18,7 @@ use Rattle.molecule.specs.Connected.{Own, Connected}
 use Rattle.molecule.proofs.Lists.{mem-at}
 use Rattle.molecule.proofs.Components.{own-sub, own-word}
 use Rattle.search.specs.Pathway.{Join, union, meets, joinUp, assemble, grown}
-use Rattle.search.specs.Joining.{Cover, Picks, after, Ready, EndsWith, Built, Parts}
+use Rattle.search.specs.Inner.Joining.{Cover, Picks, after, Ready, EndsWith, Built, Parts}
 use Rattle.search.proofs.Covers.{cover-pick, pick-mem, pick-within, pick-length, at-pick, singles-cover, low-sub, low-less, less-self, sub-none, apart-swap, less-apart}
 use Rattle.search.proofs.Tests.{first-finds, ready-more}
 use Rattle.search.proofs.Fragments.{single-connected, union-connected, part-meets}

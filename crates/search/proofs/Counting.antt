@@ -17,7 +17,7 @@ use Rattle.search.specs.Setting.{Setting, hasMemo}
 use Rattle.search.specs.State.{State, root, removable, child}
 use Rattle.search.specs.Memo.{Entry, sameKey, Memo, goes, stopped, full, recall, remember, entryOf}
 use Rattle.search.specs.Search.{Run, Outcome, answers, halts, lower, intStops, ask, tried, children, branch, counted, visit, search}
-use Rattle.search.specs.Claims.{heldOf, Counts}
+use Rattle.search.specs.Inner.Claims.{heldOf, Counts}
 
 -- a memo that goes on has room
 abbrev Kept : ℕ → Memo → Type 0

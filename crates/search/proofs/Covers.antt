@@ -8,11 +8,11 @@ use native.Mathlib.Nat.{zero-add}
 use lib.Bits.{bitOr, and-le-r}
 use lib.ListN.{length, getD, take, drop, length-append}
 use Rattle.bitset.specs.Bits.{bit, Sub, Disjoint, diff, size, members, low, unions}
-use Rattle.bitset.proofs.Laws.{bit-empty, sub-trans, sub-or, one-sub, low-bit, members-low, members-done, diff-zero, size-zero, size-remove, unions-of}
+use Rattle.bitset.proofs.Laws.{bit-empty, sub-trans, sub-or, one-sub, low-bit, members-low, members-done, diff-zero, size-zero, size-remove, unions-of, unions-none, unions-more}
 use Rattle.bitset.proofs.Members.{in-or-out, diff-in, diff-sub, apart-of, apart-out}
 use Rattle.bitset.proofs.Decide.{sets, v, less, or, none, is, sub, apart}
 use Rattle.molecule.specs.Connected.{Apart}
-use Rattle.search.specs.Joining.{Cover, Picks, now, later, Within}
+use Rattle.search.specs.Inner.Joining.{Cover, Picks, now, later, MembersIn}
 
 -- ---- sets
 
@@ -114,12 +114,12 @@ cover-flat t f p (x ∷ l) c g =
 
 -- sets that are apart cover their union
 pub apart-cover : (p : ℕ) (l : List ℕ) → Apart l → unions (λ c. c) l ≡ p → Cover p l
-unfolding unions
-apart-cover p [] a e = sym e
+apart-cover p [] a e = sym e ∙ unions-none (λ c. c)
 apart-cover p (x ∷ l) a e =
     let u : ℕ = unions (λ c. c) l in
+    let f : bitOr x u ≡ p = sym (unions-more (λ c. c) x l) ∙ e in
     let d : Disjoint x u = apart-of x u (λ i h k. let w = unions-of (λ c. c) l i k in apart-out x (w .0) i (a .0 (w .0) (w .1)) h (w .2)) in
-    (subst (Sub x) e (sub-or x u), apart-cover (diff p x) l (a .1) (sym (ap (λ (k : ℕ). diff k x) (sym e) ∙ rest x u d)))
+    (subst (Sub x) f (sub-or x u), apart-cover (diff p x) l (a .1) (sym (ap (λ (k : ℕ). diff k x) (sym f) ∙ rest x u d)))
   where
     rest : (x u : ℕ) → Disjoint x u → diff (bitOr x u) x ≡ u
     rest x u = sets (apart (v 0) (v 1) ∷ []) (is (less (or (v 0) (v 1)) (v 0)) (v 1)) (x ∷ u ∷ []) tt
@@ -138,7 +138,7 @@ pub pick-mem : (x : ℕ) {l l′ : List ℕ} → Picks x l l′ → Mem x l
 pick-mem x now = m-head refl
 pick-mem x (later k) = m-tail (pick-mem x k)
 
-pub pick-within : (x : ℕ) {l l′ : List ℕ} → Picks x l l′ → Within l′ l
+pub pick-within : (x : ℕ) {l l′ : List ℕ} → Picks x l l′ → MembersIn l′ l
 pick-within x now y m = m-tail m
 pick-within x (later k) y m = ⊎-elim (λ e. m-head e) (λ w. m-tail (pick-within x k y w)) (mem-cons m)
 

@@ -16,8 +16,9 @@ use Rattle.molecule.specs.Record.{bonds, allBonds}
 use Rattle.molecule.specs.Check.{accepted, check}
 use Rattle.matches.specs.Table.{Pair, pair, sizeOf}
 use Rattle.matches.specs.Laws.{Laws}
+use Rattle.matches.proofs.Laws.{sizeOf-first}
 use Rattle.bounds.specs.Numbers.{sumOf}
-use Rattle.bounds.specs.Removals.{Within}
+use Rattle.bounds.specs.Inner.Removals.{PiecesWithin}
 use Rattle.bounds.proofs.Numbers.{sum-append, mem-sum}
 use Rattle.bounds.proofs.Savings.{and-le}
 use Rattle.bounds.proofs.Steps.{step-falls, step-less, step-two}
@@ -25,7 +26,7 @@ use Rattle.search.specs.Setting.{Setting, hasMemo}
 use Rattle.search.specs.State.{State, root, bigComponents, removable, maskOf, keep, remove, child}
 use Rattle.search.specs.Memo.{Memo, goes, stopped, full}
 use Rattle.search.specs.Search.{Run, Outcome, answers, halts, lower, intStops, ask, tried, children, branch, counted, visit, search}
-use Rattle.search.specs.Claims.{Removable, Inv, Fine, heldOf, Ends}
+use Rattle.search.specs.Inner.Claims.{Removable, Inv, Fine, heldOf, Ends}
 use Rattle.search.proofs.Lists.{sum-flat}
 use Rattle.search.proofs.Parts.{some, big-size, big-less}
 use Rattle.search.proofs.Refine.{and-within, remove-first}
@@ -33,13 +34,13 @@ use Rattle.search.proofs.TrailClaim.{tried-removable}
 use Rattle.search.proofs.Least.{ask-off, child-step, child-inv, root-inv}
 
 -- pieces of two bonds or more are at most half as many as their bonds
-count-two : (P : List ℕ) → ((p : ℕ) → Mem p P → 2 ≤ size p) → 2 * length P ≤ sumOf size P
+pub count-two : (P : List ℕ) → ((p : ℕ) → Mem p P → 2 ≤ size p) → 2 * length P ≤ sumOf size P
 count-two [] h = omega arith
 count-two (p ∷ P) h = omega (arith, h p (m-head refl), count-two P (λ q i. h q (m-tail i)))
 
 -- ---- letting go
 
-module _ (r : Bytes) (ok : check r ≡ accepted) (ms : List Pair) (U : ℕ) (P : List ℕ) (W : Within (allBonds r) P) where
+module _ (r : Bytes) (ok : check r ≡ accepted) (ms : List Pair) (U : ℕ) (P : List ℕ) (W : PiecesWithin (allBonds r) P) where
   -- bonds only go
   pub keep-size : sumOf size (keep r ms U P) ≤ sumOf size P
   unfolding keep
@@ -83,7 +84,7 @@ module _ (r : Bytes) (ok : check r ≡ accepted) (ms : List Pair) (M : Laws r ms
   module _ (s : State) (m : ℕ) (F : Fine r ms s) (k : Removable ms (s .pieces) (s .next) m) where
     -- and so is a child of a fine state
     pub child-fine : Fine r ms (child r ms s (heldOf r ms s) m)
-    unfolding child sizeOf
+    unfolding child
     child-fine =
         let I = F .inv in
         let l : (size (pair ms m .h1) - 1) + sumOf (λ (p : ℕ). size p - 1) (remove r ms (heldOf r ms s) m) ≤ sumOf (λ (p : ℕ). size p - 1) (heldOf r ms s) = step-less (child-step r ok ms M s m I k) in
@@ -95,9 +96,9 @@ module _ (r : Bytes) (ok : check r ≡ accepted) (ms : List Pair) (M : Laws r ms
         record {
           inv = child-inv r ok ms M s m I k;
           weight = omega (arith, length-append (s .removals) (m ∷ []));
-          covered = omega arith;
-          exact = omega (arith, sum-append (λ (m : ℕ). sizeOf ms m - 1) (s .removals) (m ∷ []));
-          widest = (pair ms m .h1, remove-first r ms (heldOf r ms s) m, refl);
+          covered = omega (arith, sizeOf-first ms m);
+          exact = omega (arith, sizeOf-first ms m, sum-append (λ (m : ℕ). sizeOf ms m - 1) (s .removals) (m ∷ []));
+          widest = (pair ms m .h1, remove-first r ms (heldOf r ms s) m, sizeOf-first ms m);
         }
 
     -- a child has at most n / 2 pieces

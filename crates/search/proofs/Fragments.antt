@@ -27,7 +27,7 @@ use Rattle.molecule.proofs.Reached.{joins-sym}
 use Rattle.molecule.proofs.Trees.{accepted-tree}
 use Rattle.canonize.specs.Isomorphism.{AtomOf}
 use Rattle.search.specs.Pathway.{atomsOf, meets}
-use Rattle.search.specs.Joining.{Cover}
+use Rattle.search.specs.Inner.Joining.{Cover}
 use Rattle.search.proofs.Covers.{cover-has, apart-cover, sub-none, less-self}
 
 module _ (r : Bytes) where

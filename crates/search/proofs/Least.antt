@@ -1,32 +1,33 @@
 -- V2 and V3, memo off: whatever the bounds, no allowed series scores less than the answer. Of an accepted record and the laws of its matches.
 use mathlib.Core.Path.{_≡_, refl, sym}
-use mathlib.Core.Bool.{true, false, not}
+use mathlib.Core.Bool.{true, false}
 use mathlib.Core.Logic.{_⊎_, inl, inr, ⊎-elim}
 use mathlib.Core.List.{List, [], _∷_, List·Memᴰ as Mem, List·Memᴰ·cases-cons as mem-cons, List·Memᴰ·not-nil as not-nil, List·Memᴰ·head as m-head, List·Memᴰ·tail as m-tail}
 use Prim.Native.Nat.{ℕ, zero, suc, _+_, _-_, _≤_, min}
 use native.Mathlib.Omega.{arith}
 use lib.Dec.{ltb, leb}
-use borrow.Author.Tests.{leb-true, leb-false, ltb-true, ltb-false, not-false}
+use borrow.Author.Tests.{leb-true, leb-false, ltb-true, ltb-false}
 use Rattle.bitset.proofs.Bools.{two, and-true}
-use Rattle.bitset.proofs.Laws.{size-mono, size-first}
 use Rattle.molecule.specs.Lists.{Bytes}
 use Rattle.molecule.specs.Record.{bonds, allBonds}
 use Rattle.molecule.specs.Check.{accepted, check}
-use Rattle.molecule.proofs.Components.{own-all}
-use Rattle.canonize.proofs.Lists.{keep-intro}
-use Rattle.matches.specs.Table.{Pair, pair, sizeOf}
+use Rattle.molecule.proofs.Perms.{keep-intro}
+use Rattle.matches.specs.Table.{Pair, sizeOf}
 use Rattle.matches.specs.Laws.{Laws}
+use Rattle.matches.proofs.Laws.{sizeOf-two, sizeOf-half}
 use Rattle.bounds.specs.Numbers.{maxOf, ceilLog2}
-use Rattle.bounds.specs.Bounds.{intBound, usableEdgesBound, leftOut, leastSize}
-use Rattle.bounds.specs.Removals.{Step}
+use Rattle.bounds.specs.Bounds.{intBound, usableEdgesBound, leastSize}
+use Rattle.bounds.specs.Inner.Removals.{Step}
 use Rattle.bounds.proofs.Steps.{step-apart}
+use Rattle.bounds.proofs.Bounds.{below-least}
 use Rattle.search.specs.Setting.{Setting, hasInt, hasMatchableEdges, hasMemo}
 use Rattle.search.specs.State.{State, root, removable, maskOf, remove, child}
 use Rattle.search.specs.Memo.{Entry, goes}
 use Rattle.search.specs.Search.{Run, Outcome, answers, halts, lower, intStops, ask, tried, children, branch, counted, visit, search}
 use Rattle.search.specs.Series.{allowed, seriesScore, IsLeastScore}
-use Rattle.search.specs.Claims.{Removable, Allows, saved, Inv, heldOf, Holds, Bounded}
-use Rattle.search.proofs.Lists.{refines-within, from-before}
+use Rattle.search.specs.Series.{saved}
+use Rattle.search.specs.Inner.Claims.{Removable, Allows, Inv, heldOf, Holds, Bounded}
+use Rattle.search.proofs.Lists.{refines-within}
 use Rattle.search.proofs.Refine.{one-apart, mem-removable, allowed-allows, keep-refines, letting-go}
 use Rattle.search.proofs.TrailClaim.{holds-at, tried-removable, child-within, root-within, visit-answers, search-trail}
 use Rattle.search.proofs.Bridge.{removal, keep-apart, remove-step, int-holds, usable-holds}
@@ -77,11 +78,11 @@ module _ (r : Bytes) (ok : check r ≡ accepted) (ms : List Pair) (M : Laws r ms
 
   -- the root has it
   pub root-inv : Inv r ms (root r ms)
-  unfolding root sizeOf
+  unfolding root
   root-inv = record {
     apart = one-apart (allBonds r);
     within = root-within r ok ms;
-    most = λ m l i. omega (arith, size-mono (pair ms m .h1) (allBonds r) (own-all r (pair ms m .h1) (M .twins m i .one-own)), size-first (bonds r));
+    most = λ m l i. omega (arith, sizeOf-half r ms M m i);
   }
 
   -- a child's claim, by the state's own index
@@ -145,7 +146,7 @@ module _ (r : Bytes) (ok : check r ≡ accepted) (ms : List Pair) (M : Laws r ms
     tried-or-out : (s : State) (n best m : ℕ) → 2 ≤ sizeOf ms m → Mem m (removable r ms (s .pieces) n)
         → Mem m (tried r ms setting room s (removable r ms (s .pieces) n) best)
         ⊎ (usableEdgesBound ceilLog2 (maskOf r ms (removable r ms (s .pieces) n) 2) (maskOf r ms (removable r ms (s .pieces) n) (sizeOf ms m)) (s .pieces) (sizeOf ms m) + best ≤ s .index)
-    unfolding tried leastSize leftOut
+    unfolding tried
     tried-or-out s n best m l i = go (two (hasMatchableEdges setting))
       where
         ns : List ℕ
@@ -164,14 +165,13 @@ module _ (r : Bytes) (ok : check r ≡ accepted) (ms : List Pair) (M : Laws r ms
             large : (leb least (sizeOf ms m) ≡ true) ⊎ (leb least (sizeOf ms m) ≡ false) → Mem m (tried r ms setting room s ns best) ⊎ (bound + best ≤ s .index)
             large (inl c) = inl (rw (e, tried) (keep-intro (λ m. leb least (sizeOf ms m)) ns i c))
             large (inr c) =
-                let f = from-before (λ k. not (leftOut ceilLog2 (maskOf r ms ns) (s .pieces) (s .index) best k)) 2 (maxOf (sizeOf ms) ns - 1) (sizeOf ms m) l (leb-false least (sizeOf ms m) c) in
-                inr (leb-true (bound + best) (s .index) (not-false (leftOut ceilLog2 (maskOf r ms ns) (s .pieces) (s .index) best (sizeOf ms m)) f))
+                inr (below-least ceilLog2 (maskOf r ms ns) (s .pieces) (s .index) best (maxOf (sizeOf ms) ns) (sizeOf ms m) l (leb-false least (sizeOf ms m) c))
 
     -- an unstopped state. The empty series scores its index; a series that starts with a match that is left out does not beat best, by MatchableEdges;
     -- the rest of one that starts with a tried match is allowed from the child, by S2, and the child's claim is about it
     branch-least : (enter : State → Run → Outcome) → Enters enter → (s : State) (run : Run) → Inv r ms s
         → Holds (branch r ms setting room enter s run) (λ a t run′. Bounded r ms s (run .best) a (run′ .best))
-    unfolding branch sizeOf
+    unfolding branch
     branch-least enter E s run I =
         holds-lower (λ a b. Looped r ms s (heldOf r ms s) (tried r ms setting room s ns (run .best)) (s .index) (run .best) a b) (λ a b. Bounded r ms s (run .best) a b) close
         (children r ms setting room enter s (heldOf r ms s) (tried r ms setting room s ns (run .best)) (s .index) (s .removals) run)
@@ -190,7 +190,7 @@ module _ (r : Bytes) (ok : check r ≡ accepted) (ms : List Pair) (M : Laws r ms
           where
             all : (τ : List ℕ) → Allows r ms (s .next) (s .pieces) τ → min (run .best) a ≤ s .index - saved ms τ
             all [] h = omega (arith, w .le)
-            all (m ∷ τ) h = go (tried-or-out s (s .next) (run .best) m (M .twins m (h .0 .is) .big) (mem-removable r ms (s .pieces) (s .next) m (h .0)))
+            all (m ∷ τ) h = go (tried-or-out s (s .next) (run .best) m (sizeOf-two r ms M m (h .0 .is)) (mem-removable r ms (s .pieces) (s .next) m (h .0)))
               where
                 go : Mem m (tried r ms setting room s ns (run .best))
                     ⊎ (usableEdgesBound ceilLog2 (maskOf r ms ns 2) (maskOf r ms ns (sizeOf ms m)) (s .pieces) (sizeOf ms m) + run .best ≤ s .index) → min (run .best) a ≤ s .index - saved ms (m ∷ τ)

@@ -16,14 +16,14 @@ use Rattle.molecule.specs.Connected.{Apart}
 use Rattle.matches.specs.Table.{Pair, pair}
 use Rattle.matches.specs.Laws.{Laws}
 use Rattle.bounds.specs.Numbers.{sumOf}
-use Rattle.bounds.specs.Removals.{Within}
+use Rattle.bounds.specs.Inner.Removals.{PiecesWithin}
 use Rattle.bounds.proofs.Numbers.{mem-sum}
 use Rattle.bounds.proofs.Steps.{step-apart, step-falls}
 use Rattle.search.specs.Setting.{Setting, hasMemo}
 use Rattle.search.specs.State.{removable, remove}
 use Rattle.search.specs.Search.{Run, answers, search}
 use Rattle.search.specs.Series.{allowed, allowedFrom, seriesScore, seriesFrom, allSeries, leastOf, leastScore, IsLeastScore}
-use Rattle.search.specs.Claims.{Allows}
+use Rattle.search.specs.Inner.Claims.{Allows}
 use Rattle.search.proofs.Lists.{flat-mem, mem-flat}
 use Rattle.search.proofs.Refine.{one-within, one-apart, removable-mem, mem-removable, allowed-allows, allows-allowed, remove-within}
 use Rattle.search.proofs.TrailClaim.{search-trail}
@@ -81,7 +81,7 @@ module _ (r : Bytes) (ok : check r ≡ accepted) (ms : List Pair) (M : Laws r ms
   -- ---- every allowed series is listed
 
   -- where there is depth for the bonds in pieces: a removal strikes two of them at least
-  allows-listed : (f n : ℕ) (P τ : List ℕ) → Apart P → Within (allBonds r) P → sumOf size P ≤ f → Allows r ms n P τ → Mem τ (seriesFrom r ms f n P)
+  allows-listed : (f n : ℕ) (P τ : List ℕ) → Apart P → PiecesWithin (allBonds r) P → sumOf size P ≤ f → Allows r ms n P τ → Mem τ (seriesFrom r ms f n P)
   unfolding seriesFrom
   allows-listed zero n P [] a W l h = m-head refl
   allows-listed zero n P (m ∷ τ) a W l h = let w = h .0 .in1 in absurd (omega (arith, M .twins m (h .0 .is) .big, size-mono (pair ms m .h1) (w .0) (w .2), mem-sum size P (w .0) (w .1)))

@@ -1,26 +1,25 @@
--- Lists of pieces and of numbers: what lies inside, flat lists, sums, the first number that passes a test, sets that are apart. Assumes nothing.
-use mathlib.Core.Path.{_≡_, refl, sym, ap, _∙_}
+-- Lists of pieces and of numbers: what lies inside, flat lists, sums, sets that are apart. Assumes nothing.
+use mathlib.Core.Path.{_≡_, refl, sym, _∙_}
 use mathlib.Core.Bool.{Bool, true, false, true≢false}
 use mathlib.Core.Logic.{_⊎_, inl, inr}
 use mathlib.Core.List.{List, [], _∷_, _++_, flatMap, List·Memᴰ as Mem, List·Memᴰ·cases-cons as mem-cons, List·Memᴰ·not-nil as not-nil, List·Memᴰ·head as m-head, List·Memᴰ·tail as m-tail, List·Memᴰ·append-cases as mem-cases, Memᴰ·append-left as mem-left, Memᴰ·append-right as mem-right}
-use Prim.Native.Nat.{ℕ, zero, suc, _+_, _≤_, _<_}
+use Prim.Native.Nat.{ℕ, _+_, _≤_}
 use native.Mathlib.Omega.{arith}
-use native.Mathlib.Decide.{ℕ-discrete}
 use lib.Bits.{bitAnd}
 use borrow.Author.Tests.{eqb-true, eq-eqb}
 use Rattle.bitset.specs.Bits.{Sub, Disjoint, isSub}
 use Rattle.bitset.proofs.Bools.{two}
 use Rattle.bitset.proofs.Laws.{sub-trans}
 use Rattle.bitset.proofs.Decide.{sets, v, sub, apart}
-use Rattle.molecule.specs.Lists.{firstFrom, filter}
+use Rattle.molecule.specs.Lists.{filter}
 use Rattle.molecule.specs.Connected.{Apart}
 use Rattle.molecule.proofs.Lists.{any-some, any-none}
 use Rattle.bounds.specs.Numbers.{sumOf}
-use Rattle.bounds.specs.Removals.{Inside, Within}
+use Rattle.bounds.specs.Inner.Removals.{Inside, PiecesWithin}
 use Rattle.bounds.proofs.Numbers.{sum-append}
 use Rattle.bounds.proofs.Steps.{apart-append}
 use Rattle.search.specs.State.{inside}
-use Rattle.search.specs.Claims.{Refines}
+use Rattle.search.specs.Inner.Claims.{Refines}
 
 -- ---- inside a piece
 
@@ -43,7 +42,7 @@ pub inside-refines : {X P : List ℕ} (f : ℕ) → Refines X P → Inside f X �
 inside-refines f h i = let w = h (i .0) (i .1) in (w .0, w .1, sub-trans f (i .0) (w .0) (i .2) (w .2))
 
 -- what is within U stays so
-pub refines-within : (U : ℕ) {X P : List ℕ} → Refines X P → Within U P → Within U X
+pub refines-within : (U : ℕ) {X P : List ℕ} → Refines X P → PiecesWithin U P → PiecesWithin U X
 refines-within U h W x i = let w = h x i in sub-trans x (w .0) U (w .2) (W (w .0) (w .1))
 
 -- ---- flat lists
@@ -85,18 +84,6 @@ pub sum-flat : (f : ℕ → ℕ) (g : ℕ → List ℕ) (P : List ℕ) → ((p :
 unfolding flatMap
 sum-flat f g [] h = omega arith
 sum-flat f g (p ∷ P) h = omega (arith, sum-append f (g p) (flatMap g P), h p (m-head refl), sum-flat f g P (λ q i. h q (m-tail i)))
-
--- ---- the first number that passes a test: none before it passes
-
-pub from-before : (p : ℕ → Bool) (k f j : ℕ) → k ≤ j → j < firstFrom p k f → p j ≡ false
-unfolding firstFrom
-from-before p k zero j a b = absurd (omega arith)
-from-before p k (suc f) j a b = go (two (p k)) (ℕ-discrete j k) (from-before p (suc k) f j)
-  where
-    go : (p k ≡ true) ⊎ (p k ≡ false) → Dec (j ≡ k) → (suc k ≤ j → j < firstFrom p (suc k) f → p j ≡ false) → p j ≡ false
-    go (inl e) d ih = let b′ : j < k = rw (e, firstFrom) at b in absurd (omega arith)
-    go (inr e) (yes d) ih = ap p d ∙ e
-    go (inr e) (no d) ih = ih (omega arith) (rw (e, firstFrom) at b)
 
 -- ---- sets that are apart
 

@@ -1,14 +1,13 @@
 -- The components of two or more bonds, as letting go and removing take them: each is a fragment, no two meet, each fragment of the set lies in one, and their sizes. Of an accepted record.
-use mathlib.Core.Path.{_≡_, refl, ap, _∙_}
+use mathlib.Core.Path.{_≡_}
 use mathlib.Core.Logic.{_≢_}
-use mathlib.Core.List.{List, [], _∷_, List·Memᴰ as Mem}
+use mathlib.Core.List.{List·Memᴰ as Mem}
 use Prim.Native.Nat.{ℕ, _-_, _≤_}
 use native.Mathlib.Omega.{arith}
-use lib.Bits.{bitOr}
 use lib.Dec.{leb}
 use borrow.Author.Tests.{leb-true, le-leb}
-use Rattle.bitset.specs.Bits.{Sub, diff, size, unions}
-use Rattle.bitset.proofs.Laws.{size-mono, size-minus, size-zero}
+use Rattle.bitset.specs.Bits.{Sub, size}
+use Rattle.bitset.proofs.Laws.{size-mono, size-zero}
 use Rattle.molecule.specs.Lists.{Bytes}
 use Rattle.molecule.specs.Record.{bonds, allBonds}
 use Rattle.molecule.specs.Touch.{components}
@@ -16,24 +15,13 @@ use Rattle.molecule.specs.Check.{accepted, check}
 use Rattle.molecule.specs.Connected.{Own, Connected, Apart}
 use Rattle.molecule.proofs.Accepted.{accepted-formed}
 use Rattle.molecule.proofs.Components.{all-own, components-connected, components-inside, components-apart, components-union}
-use Rattle.canonize.proofs.Lists.{keep-mem, keep-intro}
+use Rattle.molecule.proofs.Perms.{keep-mem, keep-intro}
 use Rattle.bounds.specs.Numbers.{sumOf}
-use Rattle.bounds.specs.Removals.{Split, Inside, whole}
+use Rattle.bounds.specs.Inner.Removals.{Split, Inside}
 use Rattle.bounds.proofs.Savings.{split-size}
-use Rattle.bounds.proofs.Steps.{apart-big, split-of}
+use Rattle.bounds.proofs.Steps.{apart-big, split-of, less-split}
 use Rattle.search.specs.State.{bigComponents}
 use Rattle.search.proofs.Lists.{sum-filter}
-
--- the union of a list, by two definitions
-whole-unions : (l : List ℕ) → whole l ≡ unions (λ c. c) l
-unfolding whole unions
-whole-unions [] = refl
-whole-unions (c ∷ l) = ap (bitOr c) (whole-unions l)
-
--- the parts of a set, with one bond less of each, have at most the set's bonds less one
-split-less : (l : List ℕ) (p : ℕ) → Split p l → sumOf (λ (a : ℕ). size a - 1) l ≤ size p - 1
-split-less [] p h = omega arith
-split-less (a ∷ l) p h = omega (arith, split-less l (diff p a) (h .2), size-minus p a (h .1), h .0)
 
 module _ (r : Bytes) (ok : check r ≡ accepted) where
   -- an accepted record has from 1 to 64 bonds
@@ -52,7 +40,7 @@ module _ (r : Bytes) (ok : check r ≡ accepted) where
     components-split =
         split-of (components r s) s
         (λ c m. let n : size c ≢ 0 = λ e. components-connected r few s own c m .0 .some (size-zero c e) in omega arith)
-        (components-apart r few s own) (whole-unions (components r s) ∙ components-union r few s own)
+        (components-apart r few s own) (components-union r few s own)
 
     -- a big component is a connected part of two bonds or more
     pub big-is : (c : ℕ) → Mem c (bigComponents r s) → Connected r c × Sub c s × (2 ≤ size c)
@@ -82,4 +70,4 @@ module _ (r : Bytes) (ok : check r ≡ accepted) where
     -- and so with one bond less of each
     pub big-less : sumOf (λ (c : ℕ). size c - 1) (bigComponents r s) ≤ size s - 1
     unfolding bigComponents
-    big-less = omega (arith, sum-filter (λ (c : ℕ). size c - 1) (λ c. leb 2 (size c)) (components r s), split-less (components r s) s components-split)
+    big-less = omega (arith, sum-filter (λ (c : ℕ). size c - 1) (λ c. leb 2 (size c)) (components r s), less-split (components r s) s components-split)

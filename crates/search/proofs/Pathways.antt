@@ -24,15 +24,15 @@ use Rattle.molecule.specs.Examples.{chain}
 use Rattle.molecule.proofs.Lists.{any-some}
 use Rattle.molecule.proofs.Components.{own-all}
 use Rattle.molecule.proofs.Accepted.{accepted-formed}
-use Rattle.canonize.proofs.Lists.{keep-mem}
+use Rattle.molecule.proofs.Perms.{keep-mem}
 use Rattle.bounds.specs.Numbers.{sumOf}
 use Rattle.matches.specs.Table.{Pair, pair, sizeOf, pairs}
 use Rattle.matches.specs.Laws.{Twins}
-use Rattle.matches.proofs.Laws.{table-laws}
+use Rattle.matches.proofs.Laws.{table-laws, sizeOf-first}
 use Rattle.search.specs.State.{struck, inside, bigComponents, remove}
 use Rattle.search.specs.Series.{allowedFrom, allowed, seriesScore, IsLeastScore}
 use Rattle.search.specs.Pathway.{Join, find, assemble, grown, split, rebuilt, joinsFrom, joins, isPathwayAfter, isPathway, HasPathway}
-use Rattle.search.specs.Joining.{Within, after, Ready, EndsWith, Built, Pieces, Done}
+use Rattle.search.specs.Inner.Joining.{MembersIn, after, Ready, EndsWith, Built, Pieces, Done}
 use Rattle.search.specs.Examples.{compute}
 use Rattle.search.proofs.Covers.{cover-mem, cover-apart, flat-mem, mem-flat, less-self}
 use Rattle.search.proofs.Tests.{and-both, any-has, any-find, after-append, joins-append, ends-append, joins-test}
@@ -49,7 +49,7 @@ abbrev Located : List ℕ → ℕ → Type 0
 Located pieces h = Mem (pieceOf pieces h) pieces × Sub h (pieceOf pieces h)
 
 -- what is inside some of the pieces is located in all of them
-located : (big pieces : List ℕ) (h : ℕ) → Within big pieces → inside big h ≡ true → Located pieces h
+located : (big pieces : List ℕ) (h : ℕ) → MembersIn big pieces → inside big h ≡ true → Located pieces h
 unfolding inside
 located big pieces h w e =
     let u = any-some (isSub h) big e in
@@ -60,7 +60,7 @@ module _ (r : Bytes) (ms : List Pair) where
   -- ---- the definitions, step by step
 
   -- the state's pieces, of two or more bonds, are among those with single bonds kept: so they stay when a match is removed
-  remove-within : (big pieces : List ℕ) (m : ℕ) → Within big pieces → Within (remove r ms big m) (split r ms pieces m)
+  remove-within : (big pieces : List ℕ) (m : ℕ) → MembersIn big pieces → MembersIn (remove r ms big m) (split r ms pieces m)
   unfolding remove split bigComponents
   remove-within big pieces m w x n = go (mem-cases (flatMap (λ p. bigComponents r (diff p (struck ms m))) big) n)
     where
@@ -141,7 +141,7 @@ module _ (r : Bytes) (ms : List Pair) where
     -- after the joins of a series every piece is ready; they, what the series saves, and the pieces are together as many as the bonds.
     -- By induction on the series. No removal left: every piece is grown. A removal of size k first: the joins of the rest leave the pieces after it ready, and h2 too, since its label is h1's;
     -- the joins that undo it are one more than the pieces that it adds, and the pieces after it have k bonds less, those of h2: with the k − 1 that it saves the count is the same
-    series-done : (τ : List ℕ) (next : ℕ) (big pieces made : List ℕ) (w : ℕ) → Pieces r w pieces → Within big pieces → allowedFrom r ms next big τ ≡ true
+    series-done : (τ : List ℕ) (next : ℕ) (big pieces made : List ℕ) (w : ℕ) → Pieces r w pieces → MembersIn big pieces → allowedFrom r ms next big τ ≡ true
         → Done r made pieces (joinsFrom r ms pieces τ) × (length (joinsFrom r ms pieces τ) + sumOf (λ m. sizeOf ms m - 1) τ + length pieces ≡ size w)
     unfolding joinsFrom
     series-done [] next big pieces made w h i e = let g = grown-done r few made w pieces h in (g .0, omega (arith, g .1))
@@ -159,7 +159,7 @@ module _ (r : Bytes) (ms : List Pair) where
         let js : List Join = joinsFrom r ms (split r ms pieces m) τ in
         let ks : List Join = rebuilt r ms pieces m in
         let d = rebuilt-done w pieces (after made js) m (a .known) h (ih .0 .all) f1 f2 in
-        let z : sizeOf ms m ≡ size h1 = unfold sizeOf in refl in (
+        let z : size h1 ≡ sizeOf ms m = sizeOf-first ms m in (
           record {
             lawful = joins-append r made js ks (ih .0 .lawful) (d .0 .lawful);
             all = λ x n. subst (λ (k : List ℕ). Ready r k x) (sym (after-append r made js ks)) (d .0 .all x n);

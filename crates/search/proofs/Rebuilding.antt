@@ -18,7 +18,7 @@ use Rattle.molecule.specs.Connected.{Own, Connected}
 use Rattle.molecule.proofs.Components.{own-sub, own-word, components-connected}
 use Rattle.matches.specs.Laws.{Twins}
 use Rattle.search.specs.Pathway.{Join, assemble, grown}
-use Rattle.search.specs.Joining.{Cover, Picks, now, after, Ready, Built, Pieces, Parts, Done}
+use Rattle.search.specs.Inner.Joining.{Cover, Picks, now, after, Ready, Built, Pieces, Parts, Done}
 use Rattle.search.proofs.Covers.{cover-mem, cover-apart, cover-append, cover-flat, cover-pick, pick-within, pick-length, pick-other, pick-flat, mem-pick, flat-mem, mem-flat, less-self, less-none, less-apart, apart-swap}
 use Rattle.search.proofs.Tests.{ready-after, after-append, joins-append}
 use Rattle.search.proofs.Fragments.{components-cover, components-one}

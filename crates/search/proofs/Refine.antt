@@ -19,14 +19,14 @@ use Rattle.molecule.specs.Lists.{Bytes, numbersFrom, filter}
 use Rattle.molecule.specs.Record.{allBonds}
 use Rattle.molecule.specs.Check.{accepted, check}
 use Rattle.molecule.specs.Connected.{Apart}
-use Rattle.canonize.proofs.Lists.{keep-mem, keep-intro}
-use Rattle.canonize.proofs.OfRecords.{numbers-bounds, numbers-mem}
+use Rattle.molecule.proofs.Perms.{keep-mem, keep-intro}
+use Rattle.molecule.proofs.Lists.{numbers-bounds, numbers-mem}
 use Rattle.matches.specs.Table.{Pair, pair, sizeOf}
 use Rattle.matches.specs.Laws.{Laws}
-use Rattle.bounds.specs.Removals.{Inside, Within}
+use Rattle.bounds.specs.Inner.Removals.{Inside, PiecesWithin}
 use Rattle.search.specs.State.{struck, inside, bigComponents, removable, maskOf, keep, remove}
 use Rattle.search.specs.Series.{allowedFrom}
-use Rattle.search.specs.Claims.{Refines, Serves, Removable, Allows}
+use Rattle.search.specs.Inner.Claims.{Refines, KeepsFragments, Removable, Allows}
 use Rattle.search.proofs.Lists.{inside-true, true-inside, inside-refines, refines-within, flat-mem, mem-flat}
 use Rattle.search.proofs.Parts.{big-is, big-covers}
 
@@ -60,7 +60,7 @@ unfolding struck
 second-struck ms m = sets [] (sub (v 1) (or (v 0) (v 1))) (pair ms m .h1 ∷ pair ms m .h2 ∷ []) tt
 
 -- one piece lies in itself, and is apart
-pub one-within : (U : ℕ) → Within U (U ∷ [])
+pub one-within : (U : ℕ) → PiecesWithin U (U ∷ [])
 one-within U p i = let e : p ≡ U = mem-one i in rw e (and-self U)
 
 pub one-apart : (U : ℕ) → Apart (U ∷ [])
@@ -157,7 +157,7 @@ module _ (r : Bytes) (ms : List Pair) where
 
 module _ (r : Bytes) (ok : check r ≡ accepted) (ms : List Pair) where
   -- pieces only shrink
-  remove-shrinks : (P : List ℕ) (m : ℕ) → Within (allBonds r) P → Inside (pair ms m .h1) P → Refines (remove r ms P m) P
+  remove-shrinks : (P : List ℕ) (m : ℕ) → PiecesWithin (allBonds r) P → Inside (pair ms m .h1) P → Refines (remove r ms P m) P
   remove-shrinks P m W h c i = go (remove-cases r ms P m c i)
     where
       go : Left r ms P m c ⊎ (c ≡ pair ms m .h1) → Inside c P
@@ -168,12 +168,12 @@ module _ (r : Bytes) (ok : check r ≡ accepted) (ms : List Pair) where
       go (inr e) = rw e h
 
   -- so they go on holding bonds of the record
-  pub remove-within : (P : List ℕ) (m : ℕ) → Within (allBonds r) P → Inside (pair ms m .h1) P → Within (allBonds r) (remove r ms P m)
+  pub remove-within : (P : List ℕ) (m : ℕ) → PiecesWithin (allBonds r) P → Inside (pair ms m .h1) P → PiecesWithin (allBonds r) (remove r ms P m)
   remove-within P m W h = refines-within (allBonds r) (remove-shrinks P m W h) W
 
   -- S1: where X refines P, what is left of X after a removal refines what is left of P.
   -- A big component of what is left of a piece of X is a fragment of what is left of a piece of P, so it lies in a big component there
-  pub remove-refines : (X P : List ℕ) (m : ℕ) → Within (allBonds r) P → Refines X P → Refines (remove r ms X m) (remove r ms P m)
+  pub remove-refines : (X P : List ℕ) (m : ℕ) → PiecesWithin (allBonds r) P → Refines X P → Refines (remove r ms X m) (remove r ms P m)
   remove-refines X P m W h c i = go (remove-cases r ms X m c i)
     where
       go : Left r ms X m c ⊎ (c ≡ pair ms m .h1) → Inside c (remove r ms P m)
@@ -187,14 +187,14 @@ module _ (r : Bytes) (ok : check r ≡ accepted) (ms : List Pair) where
           (f .0, remove-mem r ms P m p (f .0) (k .1) (f .1), f .2)
 
   -- so a series allowed from X is allowed from P
-  pub allows-refines : (n : ℕ) (X P τ : List ℕ) → Within (allBonds r) P → Refines X P → Allows r ms n X τ → Allows r ms n P τ
+  pub allows-refines : (n : ℕ) (X P τ : List ℕ) → PiecesWithin (allBonds r) P → Refines X P → Allows r ms n X τ → Allows r ms n P τ
   allows-refines n X P [] W h a = tt
   allows-refines n X P (m ∷ τ) W h a =
       let k = removable-refines r ms X P n m h (a .0) in
       (k, allows-refines (suc m) (remove r ms X m) (remove r ms P m) τ (remove-within P m W (k .in1)) (remove-refines X P m W h) (a .1))
 
   -- every match of a series allowed from P is removable in P
-  pub allows-removable : (n : ℕ) (P τ : List ℕ) → Within (allBonds r) P → Allows r ms n P τ → (m : ℕ) → Mem m τ → Removable ms P n m
+  pub allows-removable : (n : ℕ) (P τ : List ℕ) → PiecesWithin (allBonds r) P → Allows r ms n P τ → (m : ℕ) → Mem m τ → Removable ms P n m
   allows-removable n P [] W a m i = absurd (not-nil i)
   allows-removable n P (k ∷ τ) W a m i = go (mem-cons i) (allows-removable (suc k) (remove r ms P k) τ (remove-within P k W (a .0 .in1)) (a .1) m)
     where
@@ -207,7 +207,7 @@ module _ (r : Bytes) (ok : check r ≡ accepted) (ms : List Pair) where
   -- ---- letting go
 
   -- what is held refines the pieces
-  pub keep-refines : (U : ℕ) (P : List ℕ) → Within (allBonds r) P → Refines (keep r ms U P) P
+  pub keep-refines : (U : ℕ) (P : List ℕ) → PiecesWithin (allBonds r) P → Refines (keep r ms U P) P
   unfolding keep
   keep-refines U P W c i =
       let w = flat-mem (λ p. bigComponents r (bitAnd p U)) P c i in
@@ -215,7 +215,7 @@ module _ (r : Bytes) (ok : check r ≡ accepted) (ms : List Pair) where
       (w .0, w .1, sub-trans c (bitAnd (w .0) U) (w .0) (q .1) (and-left (w .0) U))
 
   -- and serves them over the bonds that are kept
-  keep-serves : (U : ℕ) (P : List ℕ) → Within (allBonds r) P → Serves r U (keep r ms U P) P
+  keep-serves : (U : ℕ) (P : List ℕ) → PiecesWithin (allBonds r) P → KeepsFragments r U (keep r ms U P) P
   unfolding keep
   keep-serves U P W f j t u i =
       let p : ℕ = i .0 in
@@ -223,7 +223,7 @@ module _ (r : Bytes) (ok : check r ≡ accepted) (ms : List Pair) where
       (w .0, mem-flat (λ p. bigComponents r (bitAnd p U)) P p (w .0) (i .1) (w .1), w .2)
 
   -- removing a match keeps this: a fragment in what is left of a piece of P misses the match, lies in a piece of X, and so in what is left of that
-  remove-serves : (U : ℕ) (X P : List ℕ) (m : ℕ) → Within (allBonds r) X → Within (allBonds r) P → Serves r U X P → Serves r U (remove r ms X m) (remove r ms P m)
+  remove-serves : (U : ℕ) (X P : List ℕ) (m : ℕ) → PiecesWithin (allBonds r) X → PiecesWithin (allBonds r) P → KeepsFragments r U X P → KeepsFragments r U (remove r ms X m) (remove r ms P m)
   remove-serves U X P m WX WP h f j t u i = go (remove-cases r ms P m (i .0) (i .1))
     where
       go : Left r ms P m (i .0) ⊎ (i .0 ≡ pair ms m .h1) → Inside f (remove r ms X m)
@@ -280,7 +280,7 @@ module _ (r : Bytes) (ok : check r ≡ accepted) (ms : List Pair) where
         cover-bit P n (u .0) b (removable-mem r ms P n (u .0) (f .0)) (u .2))
 
     -- a series allowed from P, within U, is allowed from what serves P over U
-    allows-serves : (U n : ℕ) (X P τ : List ℕ) → Within (allBonds r) X → Within (allBonds r) P → Serves r U X P
+    allows-serves : (U n : ℕ) (X P τ : List ℕ) → PiecesWithin (allBonds r) X → PiecesWithin (allBonds r) P → KeepsFragments r U X P
         → ((m : ℕ) → Mem m τ → Sub (struck ms m) U) → Allows r ms n P τ → Allows r ms n X τ
     allows-serves U n X P [] WX WP h u a = tt
     allows-serves U n X P (m ∷ τ) WX WP h u a =
@@ -296,7 +296,7 @@ module _ (r : Bytes) (ok : check r ≡ accepted) (ms : List Pair) where
 
     -- S2: a series allowed from P is allowed from P after letting go.
     -- Its matches are removable in P, so by M3 all their bonds are kept; and what is held serves P over the bonds that are kept
-    pub letting-go : (P : List ℕ) (n : ℕ) (τ : List ℕ) → Within (allBonds r) P → Allows r ms n P τ → Allows r ms n (keep r ms (maskOf r ms (removable r ms P n) 2) P) τ
+    pub letting-go : (P : List ℕ) (n : ℕ) (τ : List ℕ) → PiecesWithin (allBonds r) P → Allows r ms n P τ → Allows r ms n (keep r ms (maskOf r ms (removable r ms P n) 2) P) τ
     letting-go P n τ W a =
         let U : ℕ = maskOf r ms (removable r ms P n) 2 in
         let rem = allows-removable n P τ W a in

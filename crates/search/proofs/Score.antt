@@ -1,50 +1,60 @@
 -- Demand 3: what score's answer says of the record, for every setting and every room.
 -- Assumes of the record that rows 1 to 6 accept it, or that it is scored, from which that follows; nothing else.
 use mathlib.Core.Path.{_≡_, refl, sym, _∙_}
-use mathlib.Core.Bool.{true, false}
+use mathlib.Core.Bool.{Bool, true, false, _||_}
 use mathlib.Core.Logic.{inl, inr}
 use mathlib.Core.List.{List, [], _∷_, List·Memᴰ as Mem}
 use Prim.Native.Nat.{ℕ, _+_, _-_, _*_, _≤_, _<_}
 use native.Mathlib.Omega.{arith}
-use lib.ListN.{length}
-use borrow.Author.Tests.{ne-eqb, eqb-true}
+use lib.ListN.{length, take, length-take}
+use lib.Dec.{ltb}
+use borrow.Author.Tests.{ltb-false, ne-eqb, eqb-true}
 use Rattle.bitset.specs.Bits.{Ascending}
+use Rattle.bitset.proofs.Bools.{or-false}
 use Rattle.molecule.specs.Lists.{Bytes}
 use Rattle.molecule.specs.Record.{bonds, allBonds}
-use Rattle.molecule.specs.Check.{Answer, accepted, refused, check}
+use Rattle.molecule.specs.Check.{Answer, accepted, refused, row, check}
+use Rattle.molecule.proofs.Accepted.{row-next}
 use Rattle.matches.specs.Table.{Table, matchTable, pairsOf, pairs}
 use Rattle.matches.specs.Laws.{Laws}
 use Rattle.matches.specs.Rows.{tableAnswer}
-use Rattle.matches.proofs.Laws.{table-laws}
-use Rattle.matches.proofs.Recorded.{pairs-length}
+use Rattle.matches.proofs.Laws.{table-laws, pairs-length}
 use Rattle.search.specs.Setting.{Setting, hasMemo, Room, memoRoom}
 use Rattle.search.specs.Search.{Run, Outcome, answers, halts, search}
 use Rattle.search.specs.Series.{allowed, seriesScore, leastScore, IsLeastScore}
 use Rattle.search.specs.Pathway.{isPathway, HasPathway, joins}
 use Rattle.search.specs.Answer.{entryAnswer, scored, turnedBack, searched, scoreAnswer}
-use Rattle.search.specs.Claims.{Allows, saved, Ends, Counts, Finished}
-use Rattle.search.proofs.Parts.{few}
+use Rattle.search.specs.Answer.{Finished}
+use Rattle.search.specs.Series.{saved}
+use Rattle.search.specs.Inner.Claims.{Allows, Ends, Counts}
 use Rattle.search.proofs.Refine.{allows-from, allows-ascends}
 use Rattle.search.proofs.TrailClaim.{search-series, search-trail}
 use Rattle.search.proofs.Least.{search-least, search-is-least}
 use Rattle.search.proofs.LeastScore.{least-score, search-score, search-above}
 use Rattle.search.proofs.Ends.{search-ends}
-use Rattle.search.proofs.Numbers.{allowed-length, score-exact}
+use Rattle.search.proofs.Numbers.{allowed-length, allowed-fewer, series-exact}
 use Rattle.search.proofs.Counting.{search-counts}
 use Rattle.search.proofs.Pathways.{series-pathway, series-length, one-bond}
 
--- rows 1 to 8 accept only what rows 1 to 6 do
-entry-accepted : (r : Bytes) (setting : Setting) (room : Room) → entryAnswer r setting room ≡ accepted → check r ≡ accepted
+-- none of rows 1 to 8: rows 1 to 6 accept the record, and the trail has 32 numbers or more
+pub entry-says : (r : Bytes) (setting : Setting) (room : Room) → entryAnswer r setting room ≡ accepted → (check r ≡ accepted) × (32 ≤ room .trail)
 unfolding entryAnswer
-entry-accepted r setting room e = go (check r) refl
+entry-says r setting room e = go (check r) refl
   where
-    go : (o : Answer) → check r ≡ o → check r ≡ accepted
-    go accepted q = q
+    short : Bool
+    short = ltb (room .trail) 32 || ltb (room .desk) 4096
+
+    go : (o : Answer) → check r ≡ o → (check r ≡ accepted) × (32 ≤ room .trail)
     go (refused k p) q = let z : refused k p ≡ accepted = rw (q, entryAnswer) at e in let y : _≡_ {A = ℕ} 0 1 = cc in absurd (omega arith)
+    go accepted q =
+        let a = row-next 7 0 (ltb 3 (setting .bounds) || ltb 1 (setting .memo)) (row 8 0 short accepted) (rw (q, entryAnswer) at e) .1 in
+        let b = or-false (ltb (room .trail) 32) (ltb (room .desk) 4096) (row-next 8 0 short accepted a .0) .0 in
+        (q, ltb-false (room .trail) 32 b)
 
 -- a score is the answer of a search of the record's matches
-record Searched (r : Bytes) (setting : Setting) (room : Room) (index matches states : ℕ) (trail : List ℕ) : Type 0 where
+record FromSearch (r : Bytes) (setting : Setting) (room : Room) (index matches states : ℕ) (trail : List ℕ) : Type 0 where
   ok : check r ≡ accepted
+  long : 32 ≤ room .trail
   run : Run
   is : search r (pairs r) setting (memoRoom (room .memo)) ≡ answers index trail run
   count : matches ≡ length (matchTable r .matches)
@@ -52,7 +62,7 @@ record Searched (r : Bytes) (setting : Setting) (room : Room) (index matches sta
 
 -- by the cases of the rows and of the search's outcome
 score-searched : (r : Bytes) (setting : Setting) (room : Room) (index matches states : ℕ) (trail : List ℕ) → scoreAnswer r setting room ≡ scored index matches states trail
-    → Searched r setting room index matches states trail
+    → FromSearch r setting room index matches states trail
 unfolding scoreAnswer searched
 score-searched r setting room a k n t e = entry (entryAnswer r setting room) refl
   where
@@ -62,27 +72,27 @@ score-searched r setting room a k n t e = entry (entryAnswer r setting room) ref
     out : Outcome
     out = search r (pairsOf tab) setting (memoRoom (room .memo))
 
-    never : (x y : ℕ) → turnedBack x y ≡ scored a k n t → Searched r setting room a k n t
+    never : (x y : ℕ) → turnedBack x y ≡ scored a k n t → FromSearch r setting room a k n t
     never x y q = let z : _≡_ {A = ℕ} 0 1 = cc in absurd (omega arith)
 
-    entry : (o : Answer) → entryAnswer r setting room ≡ o → Searched r setting room a k n t
+    entry : (o : Answer) → entryAnswer r setting room ≡ o → FromSearch r setting room a k n t
     entry (refused x y) q = never x y (rw (q, scoreAnswer) at e)
     entry accepted q = table (tableAnswer tab (room .parts) (room .pairs)) refl
       where
-        table : (o : Answer) → tableAnswer tab (room .parts) (room .pairs) ≡ o → Searched r setting room a k n t
+        table : (o : Answer) → tableAnswer tab (room .parts) (room .pairs) ≡ o → FromSearch r setting room a k n t
         table (refused x y) w = never x y (rw (q, w, scoreAnswer) at e)
         table accepted w = found out refl
           where
             here : searched tab out ≡ scored a k n t
             here = rw (q, w, scoreAnswer) at e
 
-            found : (o : Outcome) → out ≡ o → Searched r setting room a k n t
+            found : (o : Outcome) → out ≡ o → FromSearch r setting room a k n t
             found (halts x y) u = never x y (rw (u, searched) at here)
             found (answers a1 t1 run) u =
                 let g : scored a1 (length (tab .matches)) (run .states) t1 ≡ scored a k n t = rw (u, searched) at here in
                 let ea : a1 ≡ a = cc in
                 let et : t1 ≡ t = cc in
-                record { ok = entry-accepted r setting room q; run = run; is = rw (← ea, ← et) u; count = cc; entered = cc }
+                record { ok = entry-says r setting room q .0; long = entry-says r setting room q .1; run = run; is = rw (← ea, ← et) u; count = cc; entered = cc }
 
 -- memo 0 is off
 memo-off : (setting : Setting) → setting .memo ≡ 0 → hasMemo setting ≡ false
@@ -91,7 +101,7 @@ memo-off setting e = ne-eqb (setting .memo) 1 (λ f. omega arith)
 -- ---- a record that is scored
 
 module _ (r : Bytes) (setting : Setting) (room : Room) (index matches states : ℕ) (trail : List ℕ) (e : scoreAnswer r setting room ≡ scored index matches states trail) where
-  it : Searched r setting room index matches states trail
+  it : FromSearch r setting room index matches states trail
   it = score-searched r setting room index matches states trail e
 
   laws : Laws r (pairs r)
@@ -129,15 +139,18 @@ module _ (r : Bytes) (setting : Setting) (room : Room) (index matches states : �
 
   -- no subtraction in it is cut short
   pub trail-exact : index + saved (pairs r) trail ≡ bonds r - 1
-  trail-exact = omega (arith, trail-scores, score-exact r (it .ok) (pairs r) laws trail trail-allowed)
+  trail-exact = omega (arith, trail-scores, series-exact r (it .ok) (pairs r) laws trail trail-allowed)
 
   -- they are at most n / 2
   pub trail-half : 2 * length trail ≤ bonds r
   trail-half = allowed-length r (it .ok) (pairs r) laws trail trail-allowed
 
-  -- so at most 32
-  pub trail-fits : length trail ≤ 32
-  trail-fits = omega (arith, trail-half, few r (it .ok))
+  -- and fewer than 32, so that they fit the trail that is lent
+  pub trail-fits : length trail < 32
+  trail-fits = allowed-fewer r (it .ok) (pairs r) laws trail trail-allowed
+
+  pub trail-long : 32 ≤ room .trail
+  trail-long = it .long
 
   -- ---- the index
   -- The trail is an allowed series, so the index is its score. With the memo off every allowed series is followed by the search, since letting go loses none (Refine), or is cut off where a bound says that it saves too little to beat best (Bridge, Least)
@@ -192,7 +205,22 @@ module _ (r : Bytes) (setting : Setting) (room : Room) (index matches states : �
   pub memo-within : (run : Run) × (search r (pairs r) setting (memoRoom (room .memo)) ≡ answers index trail run) × (states ≡ run .states) × (length (run .memo) ≤ memoRoom (room .memo))
   memo-within = (it .run, it .is, it .entered, counts .2)
 
+-- where the first k of the numbers lent are the removals of a score, there are k removals
+pub scored-length : (r : Bytes) (setting : Setting) (room : Room) (index matches states k : ℕ) (numbers : List ℕ) → scoreAnswer r setting room ≡ scored index matches states (take k numbers)
+    → length numbers ≡ room .trail → k ≡ length (take k numbers)
+scored-length r setting room index matches states k numbers e l =
+    omega (
+      arith,
+      length-take k numbers,
+      trail-fits r setting room index matches states (take k numbers) e,
+      trail-long r setting room index matches states (take k numbers) e,
+    )
+
 -- ---- an accepted record
+
+-- no subtraction in the score of an allowed series is cut short: what it saves is at most bonds less one
+pub score-exact : (r : Bytes) → check r ≡ accepted → (τ : List ℕ) → allowed r (pairs r) τ ≡ true → seriesScore r (pairs r) τ + saved (pairs r) τ ≡ bonds r - 1
+score-exact r ok = series-exact r ok (pairs r) (table-laws r ok)
 
 -- one bond needs no join
 pub bond-alone : (r : Bytes) → check r ≡ accepted → bonds r ≡ 1 → joins r (pairs r) [] ≡ []
@@ -219,4 +247,4 @@ unfolding scoreAnswer
 score-ends r setting room e f =
     let k : ℕ = memoRoom (room .memo) in
     rw (e, f, scoreAnswer)
-    (finished setting k (matchTable r) (search r (pairs r) setting k) (accepted-ends r (entry-accepted r setting room e) setting k) (search-counts r (pairs r) setting k))
+    (finished setting k (matchTable r) (search r (pairs r) setting k) (accepted-ends r (entry-says r setting room e .0) setting k) (search-counts r (pairs r) setting k))

@@ -17,9 +17,9 @@ use Rattle.molecule.proofs.Scans.{first-hit, first-none}
 use Rattle.molecule.proofs.Components.{own-all, connected-is}
 use Rattle.canonize.specs.Strings.{same}
 use Rattle.canonize.specs.Label.{label}
-use Rattle.canonize.proofs.Comparing.{same-refl}
+use Rattle.canonize.proofs.Laws.{same-refl}
 use Rattle.search.specs.Pathway.{Join, union, find, isFragment, ready, isJoin, isPathwayAfter}
-use Rattle.search.specs.Joining.{Within, after, Ready, JoinAfter, JoinsAfter, EndsWith}
+use Rattle.search.specs.Inner.Joining.{MembersIn, after, Ready, JoinAfter, JoinsAfter, EndsWith}
 
 -- ---- tests over a list
 
@@ -57,12 +57,12 @@ module _ (r : Bytes) where
   -- ---- what is made
 
   -- what is ready stays ready when more is made
-  pub ready-more : (made made′ : List ℕ) (s : ℕ) → Within made made′ → Ready r made s → Ready r made′ s
+  pub ready-more : (made made′ : List ℕ) (s : ℕ) → MembersIn made made′ → Ready r made s → Ready r made′ s
   ready-more made made′ s w (inl e) = inl e
   ready-more made made′ s w (inr u) = inr (u .0, w (u .0) (u .1), u .2)
 
   -- joins add to what is made
-  pub after-keeps : (made : List ℕ) (js : List Join) → Within made (after made js)
+  pub after-keeps : (made : List ℕ) (js : List Join) → MembersIn made (after made js)
   after-keeps made [] x m = m
   after-keeps made (j ∷ js) x m = after-keeps (union j ∷ made) js x (m-tail m)
 

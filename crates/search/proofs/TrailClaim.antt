@@ -10,17 +10,17 @@ use Rattle.bitset.proofs.Bools.{two}
 use Rattle.molecule.specs.Lists.{Bytes}
 use Rattle.molecule.specs.Record.{bonds, allBonds}
 use Rattle.molecule.specs.Check.{accepted, check}
-use Rattle.canonize.proofs.Lists.{keep-mem}
+use Rattle.molecule.proofs.Perms.{keep-mem}
 use Rattle.matches.specs.Table.{Pair, sizeOf}
 use Rattle.bounds.specs.Numbers.{maxOf, ceilLog2}
 use Rattle.bounds.specs.Bounds.{leastSize}
-use Rattle.bounds.specs.Removals.{Within}
+use Rattle.bounds.specs.Inner.Removals.{PiecesWithin}
 use Rattle.search.specs.Setting.{Setting, hasMatchableEdges}
 use Rattle.search.specs.State.{State, root, removable, maskOf, remove, child}
 use Rattle.search.specs.Memo.{Memo, goes, stopped, full}
 use Rattle.search.specs.Search.{Run, Outcome, answers, halts, lower, intStops, ask, tried, children, branch, counted, visit, search}
 use Rattle.search.specs.Series.{allowed, seriesScore}
-use Rattle.search.specs.Claims.{Refines, Removable, Allows, heldOf, Holds, Trail}
+use Rattle.search.specs.Inner.Claims.{Refines, Removable, Allows, heldOf, Holds, Trail}
 use Rattle.search.proofs.Lists.{refines-within}
 use Rattle.search.proofs.Refine.{one-within, removable-mem, allows-allowed, remove-within, remove-refines, allows-refines, keep-refines}
 
@@ -48,18 +48,18 @@ tried-removable r ms setting room s best m i = removable-mem r ms (s .pieces) (s
 
 module _ (r : Bytes) (ok : check r ≡ accepted) (ms : List Pair) where
   -- the root's pieces hold bonds of the record
-  pub root-within : Within (allBonds r) (root r ms .pieces)
+  pub root-within : PiecesWithin (allBonds r) (root r ms .pieces)
   unfolding root
   root-within = one-within (allBonds r)
 
   -- and so do a child's
-  pub child-within : (s : State) (held : List ℕ) (m : ℕ) → Within (allBonds r) (s .pieces) → Refines held (s .pieces) → Removable ms (s .pieces) (s .next) m
-      → Within (allBonds r) (child r ms s held m .pieces)
+  pub child-within : (s : State) (held : List ℕ) (m : ℕ) → PiecesWithin (allBonds r) (s .pieces) → Refines held (s .pieces) → Removable ms (s .pieces) (s .next) m
+      → PiecesWithin (allBonds r) (child r ms s held m .pieces)
   unfolding child
   child-within s held m W h k = refines-within (allBonds r) (remove-refines r ok ms held (s .pieces) m W h) (remove-within r ok ms (s .pieces) m W (k .in1))
 
   -- a trail of a child is one of the state: the child's removal goes in front of the series, and S1 takes the rest back to the state's pieces
-  child-trail : (s : State) (held : List ℕ) (m : ℕ) → Within (allBonds r) (s .pieces) → Refines held (s .pieces) → Removable ms (s .pieces) (s .next) m
+  child-trail : (s : State) (held : List ℕ) (m : ℕ) → PiecesWithin (allBonds r) (s .pieces) → Refines held (s .pieces) → Removable ms (s .pieces) (s .next) m
       → {a : ℕ} {t : List ℕ} → Trail r ms (child r ms s held m) a t → Trail r ms s a t
   unfolding child
   child-trail s held m W h k w = record {
@@ -76,9 +76,9 @@ module _ (r : Bytes) (ok : check r ≡ accepted) (ms : List Pair) where
   module _ (setting : Setting) (room : ℕ) where
     -- the claim of every state entered
     abbrev Enters : (State → Run → Outcome) → Type 0
-    Enters enter = (c : State) (run : Run) → Within (allBonds r) (c .pieces) → Holds (enter c run) (λ a t run′. Trail r ms c a t)
+    Enters enter = (c : State) (run : Run) → PiecesWithin (allBonds r) (c .pieces) → Holds (enter c run) (λ a t run′. Trail r ms c a t)
 
-    children-trail : (enter : State → Run → Outcome) → Enters enter → (s : State) (held : List ℕ) → Within (allBonds r) (s .pieces) → Refines held (s .pieces)
+    children-trail : (enter : State → Run → Outcome) → Enters enter → (s : State) (held : List ℕ) → PiecesWithin (allBonds r) (s .pieces) → Refines held (s .pieces)
         → (ns : List ℕ) → ((m : ℕ) → Mem m ns → Removable ms (s .pieces) (s .next) m) → (b : ℕ) (u : List ℕ) (run : Run) → Trail r ms s b u
         → Holds (children r ms setting room enter s held ns b u run) (λ a t run′. Trail r ms s a t)
     unfolding children
@@ -103,7 +103,7 @@ module _ (r : Bytes) (ok : check r ≡ accepted) (ms : List Pair) where
             less (inl c) = rw (q, c, children) (ih a1 t1 run1 mine)
             less (inr c) = rw (q, c, children) (ih b u run1 w)
 
-    branch-trail : (enter : State → Run → Outcome) → Enters enter → (s : State) (run : Run) → Within (allBonds r) (s .pieces)
+    branch-trail : (enter : State → Run → Outcome) → Enters enter → (s : State) (run : Run) → PiecesWithin (allBonds r) (s .pieces)
         → Holds (branch r ms setting room enter s run) (λ a t run′. Trail r ms s a t)
     unfolding branch
     branch-trail enter E s run W =
@@ -112,7 +112,7 @@ module _ (r : Bytes) (ok : check r ≡ accepted) (ms : List Pair) where
         (children-trail enter E s (heldOf r ms s) W (keep-refines r ok ms (maskOf r ms ns 2) (s .pieces) W) (tried r ms setting room s ns (run .best))
         (tried-removable r ms setting room s (run .best)) (s .index) (s .removals) run (own-trail s))
 
-    counted-trail : (enter : State → Run → Outcome) → Enters enter → (s : State) (run : Run) → Within (allBonds r) (s .pieces)
+    counted-trail : (enter : State → Run → Outcome) → Enters enter → (s : State) (run : Run) → PiecesWithin (allBonds r) (s .pieces)
         → Holds (counted r ms setting room enter s run) (λ a t run′. Trail r ms s a t)
     unfolding counted
     counted-trail enter E s run W = go (two (intStops r ms setting room s (run .best)))
@@ -129,7 +129,7 @@ module _ (r : Bytes) (ok : check r ≡ accepted) (ms : List Pair) where
             asked stopped q = rw (e, q, counted) (own-trail s)
             asked full q = rw (e, q, counted) tt
 
-    visit-trail : (f : ℕ) (s : State) (run : Run) → Within (allBonds r) (s .pieces) → Holds (visit r ms setting room f s run) (λ a t run′. Trail r ms s a t)
+    visit-trail : (f : ℕ) (s : State) (run : Run) → PiecesWithin (allBonds r) (s .pieces) → Holds (visit r ms setting room f s run) (λ a t run′. Trail r ms s a t)
     unfolding visit
     visit-trail zero s run W = tt
     visit-trail (suc f) s run W = go (two (ltb (run .states) (setting .budget))) (λ c run′ W′. visit-trail f c run′ W′)
@@ -141,7 +141,7 @@ module _ (r : Bytes) (ok : check r ≡ accepted) (ms : List Pair) where
 
     -- V1 of a state: an answer's trail is the state's removals and then an allowed series that scores the answer, which is at most the state's index.
     -- By induction on the depth: a stopped state answers its own index with its own removals, and an answer taken from a child goes back through S1
-    pub visit-answers : (f : ℕ) (s : State) (run : Run) (a : ℕ) (t : List ℕ) (run′ : Run) → Within (allBonds r) (s .pieces)
+    pub visit-answers : (f : ℕ) (s : State) (run : Run) (a : ℕ) (t : List ℕ) (run′ : Run) → PiecesWithin (allBonds r) (s .pieces)
         → visit r ms setting room f s run ≡ answers a t run′ → Trail r ms s a t × (a ≤ s .index)
     visit-answers f s run a t run′ W e =
         let w : Trail r ms s a t = holds-at (λ a t run. Trail r ms s a t) (visit r ms setting room f s run) a t run′ (visit-trail f s run W) e in

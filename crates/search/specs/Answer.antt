@@ -1,7 +1,9 @@
 -- Document 01, 'Answers and turned-back records': the whole answer of score, every row in order, and the end contents of the trail and the four tables.
+use mathlib.Core.Path.{_≡_}
+use mathlib.Core.Logic.{_⊎_}
 use mathlib.Core.Bool.{true, false, _||_}
 use mathlib.Core.List.{List, _++_}
-use Prim.Native.Nat.{ℕ, _-_}
+use Prim.Native.Nat.{ℕ, _-_, _≤_}
 use lib.ListN.{length, drop, replicate}
 use lib.Dec.{ltb, leb}
 use Rattle.molecule.specs.Lists.{Bytes}
@@ -51,3 +53,8 @@ trailAfter (turnedBack number place) trail = trail
 unfoldable pub tableAfter : ScoreAnswer → List ℕ → List ℕ
 tableAfter (scored index matches states removals) words = replicate (length words) 0
 tableAfter (turnedBack number place) words = elim (leb 9 number) [ true ↦ replicate (length words) 0 | false ↦ words ]
+
+-- a score, or row 11 with the budget, or row 12 with the memo on and a number of states within the budget
+abbrev pub Finished : Setting → ScoreAnswer → Type 0
+Finished setting (scored index matches states trail) = Unit {0}
+Finished setting (turnedBack number place) = ((number ≡ 11) × (place ≡ setting .budget)) ⊎ ((number ≡ 12) × (setting .memo ≡ 1) × (place ≤ setting .budget))

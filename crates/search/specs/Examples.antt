@@ -1,4 +1,4 @@
--- Document 01, 'Molecules to try': the starred rows as one checked table, by computing; what is lent afterwards; and demand 3 on six molecules.
+-- Document 01, 'Molecules to try': the starred rows as one checked table, by computing; what is lent afterwards; the memo; and demand 3 on six molecules.
 use mathlib.Core.Path.{_≡_, refl}
 use mathlib.Core.Bool.{Bool, true, false, _&&_}
 use mathlib.Core.List.{List, [], _∷_, _++_, map, flatMap}
@@ -15,7 +15,7 @@ use Rattle.bounds.specs.Numbers.{ceilLog2}
 use Rattle.bounds.specs.Bounds.{usableEdges, intTerm, intBound, usableEdgesBound, leftOut, leastSize}
 use Rattle.search.specs.Setting.{Setting, Room}
 use Rattle.search.specs.State.{struck, inside, bigComponents, root, removable, maskOf, keep, remove, child}
-use Rattle.search.specs.Memo.{sameKey, recall, remember, keyOf, entryOf}
+use Rattle.search.specs.Memo.{Entry, Memo, goes, stopped, full, sameKey, recall, remember, keyOf, entryOf}
 use Rattle.search.specs.Search.{lower, intStops, ask, tried, children, branch, counted, visit, search}
 use Rattle.search.specs.Series.{allowedFrom, allowed, seriesScore, seriesFrom, allSeries, leastOf, leastScore}
 use Rattle.search.specs.Pathway.{Join, union, atomsOf, isFragment, ready, meets, isJoin, isPathwayAfter, isPathway, joinUp, assemble, grown, split, rebuilt, joinsFrom, joins}
@@ -119,7 +119,7 @@ pub other-rows :
 unfolding compute
 other-rows = refl
 
--- ---- what is lent, after a score and after rows 6 and 10
+-- ---- what is lent, afterwards
 
 pub lent-after-score :
     trailAfter (scoreAnswer (chain 4) usual ample) (replicate 34 9) ++ tableAfter (scoreAnswer (chain 4) usual ample) (5 ∷ 5 ∷ [])
@@ -127,11 +127,46 @@ pub lent-after-score :
 unfolding compute
 lent-after-score = refl
 
+-- two numbers of the trail and then two words of a table
+abbrev pub lentAfter : ScoreAnswer → List ℕ
+lentAfter a = trailAfter a (9 ∷ 9 ∷ []) ++ tableAfter a (5 ∷ 5 ∷ [])
+
+-- rows 6 and 8 leave both as they were; after 9, 10, 11 and 12 the trail is as it was, and the table zero
 pub lent-after-refusals :
-    trailAfter (turnedBack 10 1) (9 ∷ []) ++ (tableAfter (turnedBack 10 1) (5 ∷ []) ++ tableAfter (scoreAnswer triangle usual ample) (5 ∷ []))
-    ≡ 9 ∷ 0 ∷ 5 ∷ []
+    map lentAfter
+    (scoreAnswer triangle usual ample
+    ∷ turnedBack 8 0
+    ∷ scoreAnswer (chain 4) usual (lent 95 4096 0)
+    ∷ turnedBack 10 1
+    ∷ turnedBack 11 1
+    ∷ turnedBack 12 2
+    ∷ [])
+    ≡ replicate 2 (9 ∷ 9 ∷ 5 ∷ 5 ∷ []) ++ replicate 4 (9 ∷ 9 ∷ 0 ∷ 0 ∷ [])
 unfolding compute
 lent-after-refusals = refl
+
+-- ---- the memo: its key is a multiset, so pieces in another order are the same key
+
+-- what a state of the chain of 5 with these pieces, index and removals stores
+abbrev pub stores : List ℕ → ℕ → List ℕ → Entry
+stores pieces index removals = entryOf (chain 5) (record { pieces = pieces; index = index; largest = 5; next = 0; removals = removals })
+
+-- stored are pieces of bonds 0 and 1 and of bonds 2, 3 and 4, with index 3 and removals 1, in a memo of one entry
+abbrev pub asks : List ℕ → ℕ → List ℕ → Memo
+asks pieces index removals = remember 1 (stores pieces index removals) (stores (3 ∷ 28 ∷ []) 3 (1 ∷ []) ∷ [])
+
+pub record Recalled : Type 0 where
+  -- the stored index is larger, or the stored list is later: the entry is replaced
+  pub larger : asks (28 ∷ 3 ∷ []) 2 (2 ∷ []) ≡ goes (stores (3 ∷ 28 ∷ []) 2 (2 ∷ []) ∷ [])
+  pub later : asks (28 ∷ 3 ∷ []) 3 (0 ∷ 2 ∷ []) ≡ goes (stores (3 ∷ 28 ∷ []) 3 (0 ∷ 2 ∷ []) ∷ [])
+  -- neither: the state is stopped
+  pub stops : asks (28 ∷ 3 ∷ []) 3 (1 ∷ []) ≡ stopped
+  -- other labels are a new key, for which there is no entry
+  pub new : asks (7 ∷ []) 2 (0 ∷ []) ≡ full
+
+pub recalled : Recalled
+unfolding compute
+recalled = record { larger = refl; later = refl; stops = refl; new = refl }
 
 -- ---- demand 3: the index is the least score, the trail is an allowed series that scores it, and its joins are a pathway of that many joins
 
@@ -161,7 +196,7 @@ join s t = record { left = s; right = t }
 
 -- the joins of allowed series. In the chain of 4 bonds 2 and 3 are made first, and bonds 0 and 1 have their label.
 -- In the chain of 7 match 6 is (96, 24) and match 8 is (96, 3), whose fragments are then in two pieces, 96 and 7: the latter is made from 3, which has the label of 96, and from bond 2
-pub record Series : Type 0 where
+pub record SeriesJoins : Type 0 where
   pub four-allowed : allowed (chain 4) (pairs (chain 4)) (0 ∷ []) ≡ true
   pub four-score : seriesScore (chain 4) (pairs (chain 4)) (0 ∷ []) ≡ 2
   pub four : joins (chain 4) (pairs (chain 4)) (0 ∷ []) ≡ join 4 8 ∷ join 12 3 ∷ []
@@ -171,9 +206,9 @@ pub record Series : Type 0 where
   pub seven : joins (chain 7) (pairs (chain 7)) (6 ∷ 8 ∷ []) ≡ join 32 64 ∷ join 3 4 ∷ join 96 24 ∷ join 120 7 ∷ []
   pub one : joins (chain 1) (pairs (chain 1)) [] ≡ []
 
-pub series : Series
+pub series-joins : SeriesJoins
 unfolding compute
-series = record { four-allowed = refl; four-score = refl; four = refl; four-grown = refl; seven-allowed = refl; seven-score = refl; seven = refl; one = refl }
+series-joins = record { four-allowed = refl; four-score = refl; four = refl; four-grown = refl; seven-allowed = refl; seven-score = refl; seven = refl; one = refl }
 
 -- the test of a pathway, and what fails it
 pub record Tests : Type 0 where

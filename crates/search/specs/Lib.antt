@@ -1,4 +1,4 @@
--- Document 01, 'Search' and score's part of 'Answers and turned-back records', as definitions that compute; and the statements of their theory.
+-- Document 01, 'Search' and score's part of 'Answers and turned-back records', as definitions that compute; and what is stated of them.
 pub mod Setting
 pub mod State
 pub mod Memo
@@ -6,6 +6,5 @@ pub mod Search
 pub mod Series
 pub mod Pathway
 pub mod Answer
-pub mod Claims
-pub mod Joining
 pub mod Examples
+pub mod Inner

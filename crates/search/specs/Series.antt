@@ -11,6 +11,10 @@ use Rattle.molecule.specs.Record.{bonds, allBonds}
 use Rattle.matches.specs.Table.{Pair, pair, sizeOf}
 use Rattle.search.specs.State.{inside, removable, remove}
 
+-- what a series of matches saves: size less one for each
+abbrev pub saved : List Pair → List ℕ → ℕ
+saved ms τ = sumOf (λ m. sizeOf ms m - 1) τ
+
 module _ (r : Bytes) (ms : List Pair) where
   -- strictly increasing match numbers from next on; each match, when its turn comes, has each of its two fragments whole inside a piece
   unfoldable pub allowedFrom : ℕ → List ℕ → List ℕ → Bool
@@ -23,9 +27,9 @@ module _ (r : Bytes) (ms : List Pair) where
   unfoldable pub allowed : List ℕ → Bool
   allowed τ = allowedFrom 0 (allBonds r ∷ []) τ
 
-  -- bonds less one, less (size less one) for each removal
+  -- bonds less one, less what the series saves
   unfoldable pub seriesScore : List ℕ → ℕ
-  seriesScore τ = bonds r - 1 - sumOf (λ m. sizeOf ms m - 1) τ
+  seriesScore τ = bonds r - 1 - saved ms τ
 
   -- every series that is allowed from here, of up to f removals
   unfoldable pub seriesFrom : ℕ → ℕ → List ℕ → List (List ℕ)

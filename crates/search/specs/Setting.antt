@@ -2,12 +2,11 @@
 use mathlib.Core.Bool.{Bool, _||_}
 use Prim.Native.Nat.{ℕ, _/_}
 use lib.Dec.{eqb}
+use Rattle.search.specs.declared.Setting as code
 
--- bounds (0 to 3), memo (0 or 1) and a 32-bit budget
-pub record Setting : Type 0 where
-  pub bounds : ℕ
-  pub memo : ℕ
-  pub budget : ℕ
+-- bounds (0 to 3), memo (0 or 1) and a 32-bit budget: the code's own struct (src/lib.rt)
+abbrev pub Setting : Type 0
+Setting = code.Setting
 
 -- bounds 1 is Int, 2 is MatchableEdges, 3 both
 abbrev pub hasInt : Setting → Bool

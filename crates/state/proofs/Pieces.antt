@@ -16,34 +16,34 @@ use Rattle.bitset.specs.Bits.{size, diff, low, isDisjoint, WithoutLowest}
 use Rattle.bitset.proofs.Bools.{two}
 use Rattle.bitset.proofs.Laws.{size-empty, size-zero, size-mono, size-minus, low-bit}
 use Rattle.bitset.proofs.Members.{diff-sub, not-empty}
-use Rattle.bitset.proofs.Decide.{sets, v, and, less, sub, apart, is, none}
+use Rattle.bitset.proofs.Decide.{sets, v, and, less, sub, apart, is}
 use Rattle.molecule.specs.Lists.{Bytes, filter}
-use Rattle.molecule.specs.Touch.{reach, parts, component, components, touching}
+use Rattle.molecule.specs.Touch.{parts}
 use Rattle.molecule.specs.Connected.{Own, Connected}
 use Rattle.molecule.proofs.Growing.{lead, rest, rest-word, rest-less, reach-one, reach-sub, parts-by, parts-step, parts-none}
-use Rattle.molecule.proofs.Components.{own-sub, own-word, low-in, component-self, components-words}
-use Rattle.molecule.proofs.Lists.{Front, front-length, front-put}
+use Rattle.molecule.proofs.Components.{own-sub, components-self, components-words}
+use Rattle.molecule.proofs.Lists.{Front, front-start, front-length, front-put}
 use Rattle.bounds.specs.Numbers.{sumOf}
 use Rattle.matches.specs.Table.{Pair, sizeOf}
 use Rattle.search.specs.State.{State, bigComponents, keep, remove, child}
-use Rattle.state.specs.Pieces.{big, fallen, Big, Owned, Held, Chosen}
+use Rattle.state.specs.Inner.Pieces.{bigParts, fallen, Big, Owned, OwnedFragments, Chosen}
 
 -- ---- the big components
 
 abbrev pub near : List ℕ → ℕ → ℕ
 near touch i = getD touch i 0
 
-pub big-none : (touch : List ℕ) → big touch 0 ≡ []
-unfolding big
+pub big-none : (touch : List ℕ) → bigParts touch 0 ≡ []
+unfolding bigParts
 big-none touch = rw (parts-none (near touch))
 
 -- the first component is taken where it has two or more bonds, and else passed
-pub big-take : (touch : List ℕ) (s : ℕ) → s ≢ 0 → s < 2 ^ 64 → 2 ≤ size (lead (near touch) s) → big touch s ≡ lead (near touch) s ∷ big touch (rest (near touch) s)
-unfolding big
+pub big-take : (touch : List ℕ) (s : ℕ) → s ≢ 0 → s < 2 ^ 64 → 2 ≤ size (lead (near touch) s) → bigParts touch s ≡ lead (near touch) s ∷ bigParts touch (rest (near touch) s)
+unfolding bigParts
 big-take touch s n w h = rw (parts-step (near touch) s n w, le-leb 2 (size (lead (near touch) s)) h)
 
-pub big-pass : (touch : List ℕ) (s : ℕ) → s ≢ 0 → s < 2 ^ 64 → size (lead (near touch) s) < 2 → big touch s ≡ big touch (rest (near touch) s)
-unfolding big
+pub big-pass : (touch : List ℕ) (s : ℕ) → s ≢ 0 → s < 2 ^ 64 → size (lead (near touch) s) < 2 → bigParts touch s ≡ bigParts touch (rest (near touch) s)
+unfolding bigParts
 big-pass touch s n w h = rw (parts-step (near touch) s n w, lt-leb 2 (size (lead (near touch) s)) h)
 
 -- what is left without the first component has so many bonds fewer
@@ -61,11 +61,11 @@ pub two-bonds : (c r : ℕ) → WithoutLowest c r → r ≢ 0 → 2 ≤ size c
 two-bonds c r w n = lt-of-not-le (λ l. n (size-zero r (omega (arith, w .fewer))))
 
 -- each has two bonds of s of its own
-pub big-room : (touch : List ℕ) (s : ℕ) → s < 2 ^ 64 → 2 * length (big touch s) ≤ size s
-unfolding big
+pub big-room : (touch : List ℕ) (s : ℕ) → s < 2 ^ 64 → 2 * length (bigParts touch s) ≤ size s
+unfolding bigParts
 big-room touch = parts-by (near touch) (λ s l. 2 * length (filter (λ c. leb 2 (size c)) l) ≤ size s) (omega arith) (λ s n w ih. go s n w ih (two (leb 2 (size (lead (near touch) s)))))
   where
-    go : (s : ℕ) → s ≢ 0 → s < 2 ^ 64 → 2 * length (big touch (rest (near touch) s)) ≤ size (rest (near touch) s)
+    go : (s : ℕ) → s ≢ 0 → s < 2 ^ 64 → 2 * length (bigParts touch (rest (near touch) s)) ≤ size (rest (near touch) s)
         → (leb 2 (size (lead (near touch) s)) ≡ true) ⊎ (leb 2 (size (lead (near touch) s)) ≡ false)
         → 2 * length (filter (λ c. leb 2 (size c)) (lead (near touch) s ∷ parts (near touch) (rest (near touch) s))) ≤ size s
     go s n w ih (inl e) = rw e (omega (arith, rest-size touch s n w, leb-true 2 (size (lead (near touch) s)) e))
@@ -75,22 +75,18 @@ big-room touch = parts-by (near touch) (λ s l. 2 * length (filter (λ c. leb 2 
 pub common-size : (p kept : ℕ) → size (bitAnd p kept) ≤ size p
 common-size p kept = size-mono (bitAnd p kept) p (sets [] (sub (and (v 0) (v 1)) (v 0)) (p ∷ kept ∷ []) tt)
 
-pub common-room : (touch : List ℕ) (p kept : ℕ) → bitAnd p kept < 2 ^ 64 → 2 * length (big touch (bitAnd p kept)) ≤ size p
+pub common-room : (touch : List ℕ) (p kept : ℕ) → bitAnd p kept < 2 ^ 64 → 2 * length (bigParts touch (bitAnd p kept)) ≤ size p
 common-room touch p kept w = omega (arith, big-room touch (bitAnd p kept) w, common-size p kept)
 
 -- by the words of the record they are its big components
-pub big-words : (bytes : Bytes) (touch pieces : List ℕ) (s : ℕ) → Owned bytes touch pieces → Own bytes s → big touch s ≡ bigComponents bytes s
-unfolding big bigComponents
+pub big-words : (bytes : Bytes) (touch pieces : List ℕ) (s : ℕ) → Owned bytes touch pieces → Own bytes s → bigParts touch s ≡ bigComponents bytes s
+unfolding bigParts bigComponents
 big-words bytes touch pieces s w o = rw (w .words) (ap (filter (λ c. leb 2 (size c))) (components-words bytes (w .few) s o))
 
 -- a connected set of two or more bonds is its only one
 pub big-self : (bytes : Bytes) (touch pieces : List ℕ) (p : ℕ) → Owned bytes touch pieces → Own bytes p → Connected bytes p → 2 ≤ size p → bigComponents bytes p ≡ p ∷ []
-unfolding bigComponents components component
-big-self bytes touch pieces p w o k h =
-    let e : reach (touching bytes) p (2 ^ low p) ≡ p = component-self bytes p (low p) k (low-in bytes (w .few) p o (k .some)) in
-    let z : diff p p ≡ 0 = sets [] (is (less (v 0) (v 0)) none) (p ∷ []) tt in
-    let q : parts (touching bytes) p ≡ p ∷ [] = parts-step (touching bytes) p (k .some) (own-word bytes (w .few) p o) ∙ rw (e, z, parts-none (touching bytes)) in
-    rw (q, le-leb 2 (size p) h)
+unfolding bigComponents
+big-self bytes touch pieces p w o k h = rw (components-self bytes (w .few) p o k, le-leb 2 (size p) h)
 
 -- ---- the big components written one by one
 
@@ -100,7 +96,7 @@ pub record Pushing (touch : List ℕ) (s k : ℕ) (old now : List ℕ) (left r :
   pub word : left < 2 ^ 64
   pub found : List ℕ
   pub front : Front old now r (take k old ++ found)
-  pub total : found ++ big touch left ≡ big touch s
+  pub total : found ++ bigParts touch left ≡ bigParts touch s
 
 module _ (touch : List ℕ) (s k : ℕ) (old : List ℕ) where
   pub pushing-start : 2 * k + size s ≤ 2 * length old → s < 2 ^ 64 → Pushing touch s k old old s k
@@ -139,12 +135,12 @@ module _ (touch : List ℕ) (s k : ℕ) (old : List ℕ) where
         word = rest-word (near touch) left (p .word);
         found = p .found ++ (lead (near touch) left ∷ []);
         front = rw (← append-assoc (take k old) (p .found) (lead (near touch) left ∷ [])) (front-put old now r (take k old ++ p .found) (lead (near touch) left) (p .front) (pushing-room h));
-        total = append-assoc (p .found) (lead (near touch) left ∷ []) (big touch (rest (near touch) left)) ∙ ap (λ (l : List ℕ). p .found ++ l) (sym (big-take touch left n (p .word) h)) ∙ p .total;
+        total = append-assoc (p .found) (lead (near touch) left ∷ []) (bigParts touch (rest (near touch) left)) ∙ ap (λ (l : List ℕ). p .found ++ l) (sym (big-take touch left n (p .word) h)) ∙ p .total;
       }
 
-    pub pushing-done : k ≤ length old → left ≡ 0 → (r ≡ k + length (big touch s)) × (now ≡ take k old ++ (big touch s ++ drop r old))
+    pub pushing-done : k ≤ length old → left ≡ 0 → (r ≡ k + length (bigParts touch s)) × (now ≡ take k old ++ (bigParts touch s ++ drop r old))
     pushing-done h z =
-        let e : p .found ≡ big touch s = sym (append-nil (p .found)) ∙ ap (λ (l : List ℕ). p .found ++ l) (sym (ap (big touch) z ∙ big-none touch)) ∙ p .total in (
+        let e : p .found ≡ bigParts touch s = sym (append-nil (p .found)) ∙ ap (λ (l : List ℕ). p .found ++ l) (sym (ap (bigParts touch) z ∙ big-none touch)) ∙ p .total in (
           omega (arith, p .front .count, length-append (take k old) (p .found), length-take-le k old h, ap length e),
           rw (← e) (p .front .is ∙ append-assoc (take k old) (p .found) (drop r old)),
         )
@@ -160,7 +156,7 @@ pub fallen-same : (touch : List ℕ) (gone p : ℕ) → bitAnd p gone ≡ 0 → 
 unfolding fallen
 fallen-same touch gone p e = rw (eq-eqb (bitAnd p gone) 0 e)
 
-pub fallen-less : (touch : List ℕ) (gone p : ℕ) → bitAnd p gone ≢ 0 → fallen touch gone p ≡ big touch (diff p gone)
+pub fallen-less : (touch : List ℕ) (gone p : ℕ) → bitAnd p gone ≢ 0 → fallen touch gone p ≡ bigParts touch (diff p gone)
 unfolding fallen
 fallen-less touch gone p n = rw (ne-eqb (bitAnd p gone) 0 n)
 
@@ -211,7 +207,7 @@ pub record Written (f : ℕ → List ℕ) (w : ℕ → ℕ) (spare : ℕ) (l old
 module _ (f : ℕ → List ℕ) (w : ℕ → ℕ) (spare : ℕ) (l old : List ℕ) where
   pub written-start : sumOf w l + spare ≤ 2 * length old → Written f w spare l old old 0 0
   unfolding flatMap
-  written-start h = record { within = omega arith; front = record { count = refl; is = refl }; room = omega arith }
+  written-start h = record { within = omega arith; front = front-start old; room = omega arith }
 
   pub written-length : (now : List ℕ) (i k : ℕ) → Written f w spare l old now i k → length now ≡ length old
   written-length now i k s = front-length (s .front) (omega (arith, s .room))
@@ -232,12 +228,12 @@ module _ (f : ℕ → List ℕ) (w : ℕ → ℕ) (spare : ℕ) (l old : List �
 
 -- ---- what the definitions say
 
-pub keep-is : (bytes : Bytes) (ms : List Pair) (touch pieces : List ℕ) (kept : ℕ) → Owned bytes touch pieces → flatMap (λ p. big touch (bitAnd p kept)) pieces ≡ keep bytes ms kept pieces
+pub keep-is : (bytes : Bytes) (ms : List Pair) (touch pieces : List ℕ) (kept : ℕ) → Owned bytes touch pieces → flatMap (λ p. bigParts touch (bitAnd p kept)) pieces ≡ keep bytes ms kept pieces
 unfolding keep
-keep-is bytes ms touch pieces kept w = flat-same (λ p. big touch (bitAnd p kept)) (λ p. bigComponents bytes (bitAnd p kept)) pieces
+keep-is bytes ms touch pieces kept w = flat-same (λ p. bigParts touch (bitAnd p kept)) (λ p. bigComponents bytes (bitAnd p kept)) pieces
     (λ p m. big-words bytes touch pieces (bitAnd p kept) w (own-sub bytes (bitAnd p kept) p (sets [] (sub (and (v 0) (v 1)) (v 0)) (p ∷ kept ∷ []) tt) (w .own p m)))
 
-fallen-is : (bytes : Bytes) (touch pieces : List ℕ) (gone p : ℕ) → Held bytes touch pieces → Mem p pieces → 2 ≤ size p → fallen touch gone p ≡ bigComponents bytes (diff p gone)
+fallen-is : (bytes : Bytes) (touch pieces : List ℕ) (gone p : ℕ) → OwnedFragments bytes touch pieces → Mem p pieces → 2 ≤ size p → fallen touch gone p ≡ bigComponents bytes (diff p gone)
 fallen-is bytes touch pieces gone p w m h = go (two (isDisjoint p gone))
   where
     go : (isDisjoint p gone ≡ true) ⊎ (isDisjoint p gone ≡ false) → fallen touch gone p ≡ bigComponents bytes (diff p gone)
@@ -248,7 +244,7 @@ fallen-is bytes touch pieces gone p w m h = go (two (isDisjoint p gone))
         fallen-less touch gone p (eqb-false (bitAnd p gone) 0 e)
         ∙ big-words bytes touch pieces (diff p gone) (w .owned) (own-sub bytes (diff p gone) p (diff-sub p gone) (w .owned .own p m))
 
-pub remove-is : (bytes : Bytes) (ms : List Pair) (touch pieces : List ℕ) (m h1 gone : ℕ) → Held bytes touch pieces → Big pieces → Chosen ms m h1 gone → flatMap (fallen touch gone) pieces ++ (h1 ∷ []) ≡ remove bytes ms pieces m
+pub remove-is : (bytes : Bytes) (ms : List Pair) (touch pieces : List ℕ) (m h1 gone : ℕ) → OwnedFragments bytes touch pieces → Big pieces → Chosen ms m h1 gone → flatMap (fallen touch gone) pieces ++ (h1 ∷ []) ≡ remove bytes ms pieces m
 unfolding remove
 remove-is bytes ms touch pieces m h1 gone w b c =
     rw (c .first, c .both, flat-same (fallen touch gone) (λ p. bigComponents bytes (diff p gone)) pieces (λ p n. fallen-is bytes touch pieces gone p w n (b p n)))

@@ -6,6 +6,7 @@ use mathlib.Core.List.{List, [], _∷_, List·Memᴰ as Mem, List·Memᴰ·head 
 use Prim.Native.Nat.{ℕ, zero, suc, _+_, _-_, _*_, _^_, _≤_, _<_, max}
 use native.Mathlib.Omega.{arith}
 use native.Mathlib.Nat.{sub-self}
+use native.Mathlib.Numerals.{add-one}
 use native.Mathlib.Decide.{ℕ-discrete}
 use borrow.Author.Tests.{eqb-true, eqb-false, eq-eqb, ne-eqb, not-true, not-false}
 use lib.ListN.{length, getD, set, drop, replicate, length-set}
@@ -13,15 +14,16 @@ use lib.Seq.{drop-cons, drop-length, getD-set-same, getD-set-other}
 use lib.Bits.{bitAnd, bitOr, or-comm, or-zero-r}
 use Rattle.bitset.specs.Bits.{bit, has, Sub, Disjoint, isSub, unions, Lowest, WithoutLowest}
 use Rattle.bitset.proofs.Bools.{two}
-use Rattle.bitset.proofs.Laws.{bit-le, bit-empty, bit-diff, bit-other, or-assoc, unions-one}
+use Rattle.bitset.proofs.Laws.{bit-le, bit-empty, bit-diff, bit-other, or-assoc, unions-one, unions-none, unions-more}
 use Rattle.bitset.proofs.Members.{in-or-out, sub-of, sub-in, apart-out}
 use Rattle.bitset.proofs.Decide.{sets, sub, or, v}
-use Rattle.molecule.specs.Lists.{Bytes, numbersFrom, any, firstFrom}
+use Rattle.molecule.specs.Lists.{Bytes, numbersFrom, any}
 use Rattle.molecule.specs.Connected.{Apart}
-use Rattle.molecule.proofs.Lists.{any-some, any-none, zeros-at}
+use Rattle.molecule.proofs.Scans.{scan-hit, scan-next, from-none}
+use Rattle.molecule.proofs.Lists.{any-some, any-none, zeros-at, numbers-none, numbers-more}
 use Rattle.matches.specs.Table.{Pair, pair, sizeOf}
 use Rattle.search.specs.State.{struck, inside, removable, maskOf}
-use Rattle.state.specs.Scan.{Owners, Marked, Scanning, Told, goes}
+use Rattle.state.specs.Inner.Scan.{Owners, Marked, Scanning, Told, goes}
 
 -- ---- a piece put at its bonds
 
@@ -90,14 +92,12 @@ pub whole-start : (pieces : List ℕ) → bitOr 0 (unions (λ p. p) pieces) ≡ 
 whole-start pieces = or-comm 0 (unions (λ p. p) pieces) ∙ or-zero-r (unions (λ p. p) pieces)
 
 pub whole-next : (pieces : List ℕ) (i s : ℕ) → i < length pieces → bitOr s (unions (λ p. p) (drop i pieces)) ≡ unions (λ p. p) pieces → bitOr (bitOr s (getD pieces i 0)) (unions (λ p. p) (drop (i + 1) pieces)) ≡ unions (λ p. p) pieces
-unfolding unions
 whole-next pieces i s h e =
     let q : i + 1 ≡ suc i = omega arith in
-    rw (or-assoc, q) (rw (drop-cons pieces i 0 h) at e)
+    rw (or-assoc, q) (rw (drop-cons pieces i 0 h, unions-more (λ p. p) (getD pieces i 0) (drop (suc i) pieces)) at e)
 
 pub whole-done : (pieces : List ℕ) (i s : ℕ) → i ≡ length pieces → bitOr s (unions (λ p. p) (drop i pieces)) ≡ unions (λ p. p) pieces → s ≡ unions (λ p. p) pieces
-unfolding unions
-whole-done pieces i s h e = sym (or-zero-r s) ∙ rw (h, drop-length) at e
+whole-done pieces i s h e = sym (or-zero-r s) ∙ rw (h, drop-length, unions-none (λ p. p)) at e
 
 -- ---- inside
 
@@ -164,8 +164,7 @@ module _ (ms : List Pair) (pieces : List ℕ) where
   one-more i h = omega arith
 
   numbers-step : (i : ℕ) → i < length ms → numbersFrom i (length ms - i) ≡ i ∷ numbersFrom (suc i) (length ms - suc i)
-  unfolding numbersFrom
-  numbers-step i h = rw (one-more i h)
+  numbers-step i h = rw (one-more i h) (numbers-more i (length ms - suc i))
 
   pub removable-in : (bytes : Bytes) (i : ℕ) → i < length ms → goes ms pieces i ≡ true → removable bytes ms pieces i ≡ i ∷ removable bytes ms pieces (suc i)
   unfolding removable
@@ -176,49 +175,47 @@ module _ (ms : List Pair) (pieces : List ℕ) where
   removable-out bytes i h e = rw (numbers-step i h, e)
 
   pub removable-end : (bytes : Bytes) (i : ℕ) → i ≡ length ms → removable bytes ms pieces i ≡ []
-  unfolding removable numbersFrom
-  removable-end bytes i e = rw (e, sub-self (length ms))
+  unfolding removable
+  removable-end bytes i e = rw (e, sub-self (length ms), numbers-none (length ms))
 
   -- ---- the scan
 
   pub told-start : (i n : ℕ) (masks : List ℕ) → i ≡ length ms → masks ≡ replicate n 0 → Told ms pieces i masks 0 i
-  unfolding maskOf unions firstFrom
+  unfolding maskOf
   told-start i n masks e z = record {
-    masked = λ bytes k h. rw (z, removable-end bytes i e) (zeros-at n k);
+    masked = λ bytes k h. rw (z, removable-end bytes i e) (zeros-at n k ∙ sym (unions-none (struck ms)));
     largest = λ bytes. rw (removable-end bytes i e);
-    first = let z : length ms - i ≡ 0 = omega arith in rw z;
+    first = let z : length ms - i ≡ 0 = omega arith in rw z (sym (from-none (goes ms pieces) i));
     after = omega arith;
     within = omega arith;
     same = λ bytes. refl;
   }
 
   pub told-out : (i start largest : ℕ) (masks : List ℕ) → i < length ms → goes ms pieces i ≡ false → Told ms pieces (suc i) masks largest start → Told ms pieces i masks largest start
-  unfolding firstFrom
   told-out i start largest masks h e w = record {
     masked = λ bytes k l. rw (removable-out bytes i h e) (w .masked bytes k l);
     largest = λ bytes. rw (removable-out bytes i h e) (w .largest bytes);
-    first = rw (one-more i h, e, firstFrom) (w .first);
+    first = w .first ∙ sym (rw (add-one i) at (scan-next (goes ms pieces) i (length ms) h e));
     after = omega (arith, w .after);
     within = w .within;
     same = λ bytes. w .same bytes ∙ sym (removable-out bytes i h e);
   }
 
   mask-step : (bytes : Bytes) (i k largest start : ℕ) (masks : List ℕ) → sizeOf ms i < length masks → k < 33 → Told ms pieces (suc i) masks largest start → getD (set masks (sizeOf ms i) (bitOr (getD masks (sizeOf ms i) 0) (struck ms i))) k 0 ≡ maskOf bytes ms (i ∷ removable bytes ms pieces (suc i)) k
-  unfolding maskOf unions
+  unfolding maskOf
   mask-step bytes i k largest start masks f l w = go (ℕ-discrete k (sizeOf ms i))
     where
       go : Dec (k ≡ sizeOf ms i) → getD (set masks (sizeOf ms i) (bitOr (getD masks (sizeOf ms i) 0) (struck ms i))) k 0 ≡ maskOf bytes ms (i ∷ removable bytes ms pieces (suc i)) k
       go (yes q) =
-          rw (eq-eqb (sizeOf ms i) k (sym q), q) (getD-set-same masks (sizeOf ms i) (bitOr (getD masks (sizeOf ms i) 0) (struck ms i)) 0 f ∙ or-comm (getD masks (sizeOf ms i) 0) (struck ms i) ∙ ap (bitOr (struck ms i)) (rw q at (w .masked bytes k l)))
+          rw (eq-eqb (sizeOf ms i) k (sym q), unions-more, q) (getD-set-same masks (sizeOf ms i) (bitOr (getD masks (sizeOf ms i) 0) (struck ms i)) 0 f ∙ or-comm (getD masks (sizeOf ms i) 0) (struck ms i) ∙ ap (bitOr (struck ms i)) (rw q at (w .masked bytes k l)))
       go (no q) =
           rw (ne-eqb (sizeOf ms i) k (λ e. q (sym e))) (getD-set-other masks (sizeOf ms i) k (bitOr (getD masks (sizeOf ms i) 0) (struck ms i)) 0 q ∙ w .masked bytes k l)
 
   pub told-in : (i start largest : ℕ) (masks : List ℕ) → i < length ms → goes ms pieces i ≡ true → sizeOf ms i < length masks → Told ms pieces (suc i) masks largest start → Told ms pieces i (set masks (sizeOf ms i) (bitOr (getD masks (sizeOf ms i) 0) (struck ms i))) (max (sizeOf ms i) largest) i
-  unfolding firstFrom
   told-in i start largest masks h e f w = record {
     masked = λ bytes k l. rw (removable-in bytes i h e) (mask-step bytes i k largest start masks f l w);
     largest = λ bytes. rw (removable-in bytes i h e) (ap (max (sizeOf ms i)) (w .largest bytes));
-    first = rw (one-more i h, e, firstFrom);
+    first = sym (scan-hit (goes ms pieces) i (length ms) h e);
     after = omega arith;
     within = omega arith;
     same = λ bytes. refl;

@@ -1,4 +1,2 @@
--- The code's states as those of the search's definitions; their pieces; a scan of the matches.
-pub mod Views
-pub mod Pieces
-pub mod Scan
+-- The definitions that states are held to are those of search; what stands here is for inner contracts and proofs.
+pub mod Inner

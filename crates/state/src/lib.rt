@@ -8,12 +8,13 @@ ghost use Rattle.molecule.specs.Lists.{Bytes};
 ghost use Rattle.molecule.specs.Record.{bonds};
 ghost use Rattle.matches.specs.Table.{Pair, sizeOf};
 ghost use Rattle.search.specs.State.{root, keep, remove, child};
-ghost use Rattle.state.specs.Views.{stateOf};
-ghost use Rattle.state.specs.Pieces.{big, fallen, bondsOf, bondsLeft, Big, Owned, Held, Chosen};
+ghost use Rattle.state.specs.Inner.Views.{stateOf};
+ghost use Rattle.state.specs.Inner.Pieces.{bigParts, fallen, bondsIn, bondsLeft, Big, Owned, OwnedFragments, Chosen};
 
 pub mod scan;
 
-// At most 32 pieces, of which so many are there; the index; the size of the largest removed; the number after the last removed; at most 32 removals, of which so many are there.
+// At most 32 pieces, of which so many are there; the index; the size of the largest removed; the number after the last removed; at most 32 removals,
+// of which so many are there.
 pub struct State {
     pub pieces: [u64; 32],
     pub count: usize,
@@ -46,8 +47,8 @@ pub fn root(n: usize) -> State
 // The components of s that have two or more bonds go to out from place k on; the answer is how many out has then.
 fn push_big(touch: &[u64; 64], s: u64, out: &mut [u64], k: usize) -> usize
     requires { ⌜ 2 * k + size s ≤ 2 * length (now out) ⌝ }
-    ensures count { λ r. ⌜ r ≡ k + length (big (now (touch .entry)) s) ⌝ }
-    ensures holds { λ r. ⌜ now (out .exit) ≡ take k (now (out .entry)) ++ (big (now (touch .entry)) s ++ drop r (now (out .entry))) ⌝ }
+    ensures count { λ r. ⌜ r ≡ k + length (bigParts (now (touch .entry)) s) ⌝ }
+    ensures holds { λ r. ⌜ now (out .exit) ≡ take k (now (out .entry)) ++ (bigParts (now (touch .entry)) s ++ drop r (now (out .entry))) ⌝ }
 {
     let mut rest = s;
     let mut r = k;
@@ -65,9 +66,11 @@ fn push_big(touch: &[u64; 64], s: u64, out: &mut [u64], k: usize) -> usize
 
 // Letting go: what is left of each piece with the bonds of kept alone goes to the front of out; the answer is how many there are.
 pub fn keep(touch: &[u64; 64], pieces: &[u64], kept: u64, out: &mut [u64]) -> usize
-    requires { ⌜ bondsOf (now pieces) ≤ 2 * length (now out) ⌝ }
+    requires { ⌜ bondsIn (now pieces) ≤ 2 * length (now out) ⌝ }
     ensures within { λ r. ⌜ r ≤ length (now (out .entry)) ⌝ }
-    ensures is { λ r. ⌜ ((bytes : Bytes) (ms : List Pair) → Owned bytes (now (touch .entry)) (now (pieces .entry)) → (r ≡ length (keep bytes ms kept (now (pieces .entry)))) × (now (out .exit) ≡ keep bytes ms kept (now (pieces .entry)) ++ drop r (now (out .entry)))) ⌝ }
+    ensures is { λ r. ⌜ ((bytes : Bytes) (ms : List Pair) → Owned bytes (now (touch .entry)) (now (pieces .entry))
+        → (r ≡ length (keep bytes ms kept (now (pieces .entry))))
+        × (now (out .exit) ≡ keep bytes ms kept (now (pieces .entry)) ++ drop r (now (out .entry)))) ⌝ }
 {
     let mut k = 0;
     let mut i = 0;
@@ -78,7 +81,8 @@ pub fn keep(touch: &[u64; 64], pieces: &[u64], kept: u64, out: &mut [u64]) -> us
     k
 }
 
-// What piece p falls into without the bonds gone goes to out from place k on; the answer is how many out has then. A piece that has none of them stays as it is.
+// What piece p falls into without the bonds gone goes to out from place k on; the answer is how many out has then. A piece that has none of them
+// stays as it is.
 fn push_fallen(touch: &[u64; 64], p: u64, gone: u64, out: &mut [u64], k: usize) -> usize
     requires { ⌜ (2 ≤ size p) × (2 * k + size (diff p gone) ≤ 2 * length (now out)) ⌝ }
     ensures count { λ r. ⌜ r ≡ k + length (fallen (now (touch .entry)) gone p) ⌝ }
@@ -95,7 +99,9 @@ fn push_fallen(touch: &[u64; 64], p: u64, gone: u64, out: &mut [u64], k: usize) 
 pub fn remove(touch: &[u64; 64], pieces: &[u64], struck: u64, h1: u64, out: &mut [u64]) -> usize
     requires { ⌜ Big (now pieces) × (bondsLeft struck (now pieces) + 2 ≤ 2 * length (now out)) ⌝ }
     ensures within { λ r. ⌜ r ≤ length (now (out .entry)) ⌝ }
-    ensures is { λ r. ⌜ ((bytes : Bytes) (ms : List Pair) (m : ℕ) → Held bytes (now (touch .entry)) (now (pieces .entry)) → Chosen ms m h1 struck → (r ≡ length (remove bytes ms (now (pieces .entry)) m)) × (now (out .exit) ≡ remove bytes ms (now (pieces .entry)) m ++ drop r (now (out .entry)))) ⌝ }
+    ensures is { λ r. ⌜ ((bytes : Bytes) (ms : List Pair) (m : ℕ) → OwnedFragments bytes (now (touch .entry)) (now (pieces .entry))
+        → Chosen ms m h1 struck → (r ≡ length (remove bytes ms (now (pieces .entry)) m))
+        × (now (out .exit) ≡ remove bytes ms (now (pieces .entry)) m ++ drop r (now (out .entry)))) ⌝ }
 {
     let mut k = 0;
     let mut i = 0;
@@ -118,7 +124,8 @@ pub fn child(
     size: u32,
 ) -> State
     requires { ⌜ Big (now held) × (bondsLeft struck (now held) + 2 ≤ 64) × (m < 2 ^ 32) × (1 ≤ size) × (size - 1 ≤ s .index) × (s .removed < 32) ⌝ }
-    ensures is { λ r. ⌜ ((bytes : Bytes) (ms : List Pair) → Held bytes (now (touch .entry)) (now (held .entry)) → Chosen ms m h1 struck → sizeOf ms m ≡ size → stateOf r ≡ child bytes ms (stateOf s) (now (held .entry)) m) ⌝ }
+    ensures is { λ r. ⌜ ((bytes : Bytes) (ms : List Pair) → OwnedFragments bytes (now (touch .entry)) (now (held .entry))
+        → Chosen ms m h1 struck → sizeOf ms m ≡ size → stateOf r ≡ child bytes ms (stateOf s) (now (held .entry)) m) ⌝ }
     ensures counts { λ r. ⌜ (r .count ≤ 32) × (r .removed ≡ s .removed + 1) × (r .removed ≤ 32) ⌝ }
 {
     let mut pieces = [0u64; 32];

@@ -1,4 +1,5 @@
-// Which matches are removable in a state, and the bonds in them by size (src/state.rs). The pairs table has four words a match: h1, h2, their union and the size of h1.
+// Which matches are removable in a state, and the bonds in them by size (src/state.rs). The pairs table has four words a match: h1, h2, their union
+// and the size of h1.
 ghost use mathlib.Core.Path.{_≡_};
 ghost use mathlib.Core.Logic.{_≢_};
 ghost use mathlib.Core.List.{List};
@@ -8,7 +9,7 @@ ghost use Rattle.bitset.specs.Bits.{unions};
 ghost use Rattle.molecule.specs.Connected.{Apart};
 ghost use Rattle.matches.specs.Table.{Pair};
 ghost use Rattle.search.specs.State.{inside};
-ghost use Rattle.state.specs.Scan.{Owners, Marked, Scanning, Told, goes};
+ghost use Rattle.state.specs.Inner.Scan.{Owners, Marked, Scanning, Told, goes};
 
 // Puts p at each of its bonds.
 fn mark(own: &mut [u64], p: u64)
@@ -63,7 +64,8 @@ fn is_inside(own: &[u64; 64], h: u64) -> bool
 // Whether match m is removable: both fragments are inside pieces. Where their union is not among the bonds of all pieces, they are not.
 pub fn is_removable(pairs: &[u64], m: usize, own: &[u64; 64], all: u64) -> bool
     requires { ⌜ ((ms : List Pair) × (pieces : List ℕ) × Scanning (now pairs) ms pieces (now own) all × (m < length ms)) ⌝ }
-    ensures { λ r. ⌜ ((ms : List Pair) → (pieces : List ℕ) → Scanning (now (pairs .entry)) ms pieces (now (own .entry)) all → m < length ms → r ≡ goes ms pieces m) ⌝ }
+    ensures { λ r. ⌜ ((ms : List Pair) → (pieces : List ℕ) → Scanning (now (pairs .entry)) ms pieces (now (own .entry)) all → m < length ms
+        → r ≡ goes ms pieces m) ⌝ }
 {
     if !bitset::is_subset(pairs[4 * m + 2], all) {
         return false;
@@ -96,9 +98,11 @@ pub fn masks(
     all: u64,
     masks: &mut [u64],
 ) -> Scanned
-    requires { ⌜ (length (now masks) ≡ 33) × (from ≤ matches) × ((ms : List Pair) × (pieces : List ℕ) × Scanning (now pairs) ms pieces (now own) all × (matches ≡ length ms)) ⌝ }
+    requires { ⌜ (length (now masks) ≡ 33) × (from ≤ matches) × ((ms : List Pair) × (pieces : List ℕ)
+        × Scanning (now pairs) ms pieces (now own) all × (matches ≡ length ms)) ⌝ }
     ensures long { λ r. ⌜ length (now (masks .exit)) ≡ 33 ⌝ }
-    ensures told { λ r. ⌜ ((ms : List Pair) → (pieces : List ℕ) → Scanning (now (pairs .entry)) ms pieces (now (own .entry)) all → matches ≡ length ms → Told ms pieces from (now (masks .exit)) (r .largest) (r .first)) ⌝ }
+    ensures told { λ r. ⌜ ((ms : List Pair) → (pieces : List ℕ) → Scanning (now (pairs .entry)) ms pieces (now (own .entry)) all
+        → matches ≡ length ms → Told ms pieces from (now (masks .exit)) (r .largest) (r .first)) ⌝ }
 {
     clear::zero(masks);
     let mut largest = 0;

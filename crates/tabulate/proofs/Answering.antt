@@ -1,10 +1,9 @@
 -- What `build` answers, row by row, and what it leaves in pairs. Assumes nothing.
 use mathlib.Core.Path.{_≡_, refl, sym, ap, _∙_, subst}
 use mathlib.Core.List.{List, [], _∷_, _++_}
-use Prim.Native.Nat.{ℕ, _+_, _-_, _*_, _≤_, _<_}
+use Prim.Native.Nat.{ℕ, _*_, _≤_, _<_}
 use native.Mathlib.Omega.{arith}
 use lib.ListN.{length, getD, drop, length-append, length-drop}
-use lib.Seq.{getD-append-add, getD-drop}
 use borrow.Author.Tests.{ltb-false}
 use Rattle.molecule.specs.Lists.{Bytes}
 use Rattle.molecule.specs.Record.{bonds}
@@ -12,11 +11,13 @@ use Rattle.molecule.specs.Check.{Answer, accepted, refused, row, check}
 use Rattle.molecule.proofs.Accepted.{row-next, rowAt-next}
 use Rattle.matches.specs.Table.{Table, matchTable, pairs}
 use Rattle.matches.specs.Rows.{partsRoom, pairsRoom, overflows, tooMany, tableAnswer}
-use Rattle.matches.specs.Written.{wordsOf, matchesIn, StartsBefore, Recorded}
-use Rattle.tabulate.specs.Built.{counted, turnedBack, buildAnswer, matchWords, pairsAfter, Whole, Over}
-use Rattle.matches.proofs.RowLaws.{parts-over, pairs-over, all-fit}
+use Rattle.matches.specs.Inner.Written.{wordsOf, matchesIn, StartsBefore, Recorded}
+use Rattle.tabulate.specs.Built.{counted, turnedBack, buildAnswer}
+use Rattle.tabulate.specs.Inner.PairsLeft.{matchWords, pairsAfter}
+use Rattle.tabulate.specs.Inner.Walked.{WholeTable, NoRoom}
+use Rattle.matches.proofs.Laws.{parts-over, pairs-over, all-fit}
 use Rattle.tabulate.proofs.Writing.{words-length}
-use Rattle.matches.proofs.Recorded.{pairs-length, table-recorded, starts-before, matches-in, words-in}
+use Rattle.matches.proofs.Laws.{pairs-length, table-recorded, starts-before, matches-in, words-in}
 use Rattle.tabulate.proofs.Stages.{table-zero}
 use Rattle.tabulate.proofs.Building.{need-at}
 
@@ -29,7 +30,7 @@ room-pairs : (n : ℕ) → 4 * pairsRoom n ≤ n
 room-pairs n = omega arith
 
 -- single bonds alone have no room
-pub over-one : (r : Bytes) (p : ℕ) → p < bonds r → Over r p 1
+pub over-one : (r : Bytes) (p : ℕ) → p < bonds r → NoRoom r p 1
 over-one r p h =
     let a = first 0 (omega arith) in
     let b = first 1 (omega arith) in
@@ -84,10 +85,10 @@ module _ (r : Bytes) (parts : ℕ) (old : List ℕ) where
 
   module _ (p : ℕ) (room : p ≡ partsRoom parts) where
     -- row 9
-    pub answer-parts : (k : ℕ) → Over r p k → (turnedBack 9 k ≡ buildAnswer r parts (length old)) × (old ≡ pairsAfter r parts old)
+    pub answer-parts : (k : ℕ) → NoRoom r p k → (turnedBack 9 k ≡ buildAnswer r parts (length old)) × (old ≡ pairsAfter r parts old)
     answer-parts k o = answer-refused 9 k (parts-over (matchTable r) parts (length old) k (o .place) (omega (arith, o .exceeds)) (λ i l. omega (arith, o .before i l)))
 
-    module _ (now : List ℕ) (nodes n : ℕ) (w : Whole r now p nodes n) where
+    module _ (now : List ℕ) (nodes n : ℕ) (w : WholeTable r now p nodes n) where
       -- row 10
       pub answer-pairs : pairsRoom (length old) < n → (turnedBack 10 n ≡ buildAnswer r parts (length old)) × (old ≡ pairsAfter r parts old)
       answer-pairs h =
@@ -131,17 +132,6 @@ module _ (r : Bytes) (parts : ℕ) (old : List ℕ) (ok : tableAnswer (matchTabl
   pub after-recorded : Recorded (pairsAfter r parts old) (pairs r)
   unfolding matchWords
   after-recorded = rw (after-is r parts old ok) (table-recorded (matchTable r) (drop (length (matchWords r)) old))
-
-  -- the words after them are as they were, and so many
-  pub after-rest : (i : ℕ) → 4 * length (pairs r) ≤ i → getD (pairsAfter r parts old) i 0 ≡ getD old i 0
-  after-rest i h =
-      let n : ℕ = length (matchWords r) in
-      let e : n + (i - n) ≡ i = omega (arith, words-many r, after-count) in
-      ap (λ (z : List ℕ). getD z i 0) (after-is r parts old ok)
-      ∙ ap (λ (j : ℕ). getD (matchWords r ++ drop n old) j 0) (sym e)
-      ∙ getD-append-add (matchWords r) (drop n old) (i - n) 0
-      ∙ getD-drop n old (i - n) 0
-      ∙ ap (λ (j : ℕ). getD old j 0) e
 
   pub after-length : length (pairsAfter r parts old) ≡ length old
   after-length = ap length (after-is r parts old ok) ∙ length-append (matchWords r) (drop (length (matchWords r)) old) ∙ omega (arith, length-drop (length (matchWords r)) old, words-many r, after-count, after-room)

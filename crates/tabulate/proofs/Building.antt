@@ -9,19 +9,18 @@ use lib.ListN.{length, getD, length-append}
 use Rattle.molecule.specs.Lists.{Bytes}
 use Rattle.molecule.specs.Record.{bonds}
 use Rattle.molecule.proofs.Lists.{sort-perm}
-use Rattle.canonize.proofs.Lists.{Distinct, perm-length}
-use Rattle.canonize.proofs.Parts.{distinct-le}
+use Rattle.molecule.proofs.Perms.{Distinct, perm-length, distinct-le}
 use Rattle.matches.specs.Table.{Table, Match, notBelow, sizes, singles, matchTable}
-use Rattle.matches.specs.Descending.{countdown, withEach, descend, Starts}
-use Rattle.matches.specs.Written.{startIn}
-use Rattle.tabulate.specs.Sized.{tableAt, nodesAt, Held, Sizing, Sized}
-use Rattle.tabulate.specs.Built.{Whole, Over, Ended}
-use Rattle.matches.proofs.Pairing.{Grows, grows-refl}
-use Rattle.matches.proofs.Sizes.{Round, next, newest, round-next, sizes-grows, last-parents, sizes-enough, start, start-round, unsorted}
+use Rattle.matches.specs.Inner.Descending.{countdown, withEach, descend, Starts}
+use Rattle.matches.specs.Inner.Written.{startIn}
+use Rattle.tabulate.specs.Inner.Stage.{tableAt, nodesAt, Stage, Sizing, NextSize}
+use Rattle.tabulate.specs.Inner.Walked.{WholeTable, NoRoom, Walked}
+use Rattle.matches.proofs.Laws.{Grows, grows-refl}
+use Rattle.matches.proofs.Laws.{Round, next, newest, round-next, sizes-grows, last-parents, sizes-enough, start, start-round, unsorted}
 use Rattle.tabulate.proofs.Stages.{singles-length, parentsAt, table-zero, nodes-zero, nodes-suc, parents-count, table-done, table-round, table-round-next}
-use Rattle.matches.proofs.Listed.{nodes-are, needs-are}
-use Rattle.matches.proofs.Descending.{countdown-has, descend-has}
-use Rattle.matches.proofs.RowLaws.{need-stays}
+use Rattle.matches.proofs.Laws.{nodes-are, needs-are}
+use Rattle.matches.proofs.Laws.{countdown-has, descend-has}
+use Rattle.matches.proofs.Laws.{need-stays}
 use Rattle.tabulate.proofs.Writing.{each-length}
 
 -- ---- how many matches there can be
@@ -81,14 +80,14 @@ module _ (r : Bytes) where
   pub record Walking (parts : List ℕ) (p size from to total : ℕ) : Type 0 where
     pub stage : ℕ
     pub is : size ≡ suc (suc stage)
-    pub held : Held r parts p stage
+    pub held : Stage r parts p stage
     pub older : from ≡ nodesAt r stage
     pub all : to ≡ nodesAt r (suc stage)
     pub few : to ≤ p
     pub count : total ≡ length (tableAt r stage .matches)
 
-  pub walking-start : (parts : List ℕ) (p n : ℕ) → Held r parts p 0 → n ≡ bonds r → n ≤ p → Walking parts p 2 0 n 0
-  walking-start parts p n h e f = record {
+  pub walking-start : {parts : List ℕ} {p n : ℕ} → Stage r parts p 0 → n ≡ bonds r → n ≤ p → Walking parts p 2 0 n 0
+  walking-start h e f = record {
     stage = 0;
     is = refl;
     held = h;
@@ -100,7 +99,7 @@ module _ (r : Bytes) where
 
   module _ {parts : List ℕ} {p size from to total : ℕ} (w : Walking parts p size from to total) where
     -- all had room
-    pub walking-end : to ≤ from → Whole r parts p to total
+    pub walking-end : to ≤ from → WholeTable r parts p to total
     walking-end h =
         let e : tableAt r (w .stage) ≡ unsorted r = at-end (w .stage) (omega (arith, w .older, w .all)) in
         let n : tableAt r (w .stage) .nodes ≡ matchTable r .nodes = ap (λ (t : Table). t .nodes) e ∙ sym (nodes-are r) in
@@ -131,9 +130,9 @@ module _ (r : Bytes) where
               let e = last-parents r (suc (w .stage)) (tableAt r (w .stage)) (parentsAt r (w .stage)) (omega arith) (table-round r (w .stage) parents) in
               absurd (omega (arith, ap length e, parents-count r (w .stage), parents))
 
-      module _ (now : List ℕ) (nodes matches : ℕ) (s : Sized r now p (w .stage) nodes matches) where
+      module _ {now : List ℕ} {nodes matches : ℕ} (s : NextSize r now p (w .stage) nodes matches) where
         -- this size has no room
-        pub walking-over : p < nodes → Over r p size
+        pub walking-over : p < nodes → NoRoom r p size
         walking-over o =
             let k : ℕ = w .stage in
             let a = need-at (suc k) (suc (suc k)) (s .place o) in
@@ -169,8 +168,8 @@ module _ (r : Bytes) where
 
   -- ---- its two ends
 
-  pub ended-whole : (parts : List ℕ) (p nodes matches : ℕ) → Whole r parts p nodes matches → Ended r parts p 0 nodes matches
-  ended-whole parts p nodes matches w = record { whole = λ e. w; first = λ l. absurd (omega arith) }
+  pub walked-whole : {parts : List ℕ} {p nodes matches : ℕ} → WholeTable r parts p nodes matches → Walked r parts p 0 nodes matches
+  walked-whole w = record { whole = λ e. w; first = λ l. absurd (omega arith) }
 
-  pub ended-over : (parts : List ℕ) (p k nodes matches : ℕ) → Over r p k → 0 < k → Ended r parts p k nodes matches
-  ended-over parts p k nodes matches o h = record { whole = λ e. absurd (omega arith); first = λ l. o }
+  pub walked-over : {parts : List ℕ} {p k nodes matches : ℕ} → NoRoom r p k → 0 < k → Walked r parts p k nodes matches
+  walked-over o h = record { whole = λ e. absurd (omega arith); first = λ l. o }

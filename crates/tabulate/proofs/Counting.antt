@@ -5,7 +5,7 @@ use Prim.Native.Nat.{ℕ}
 use lib.ListN.{length, replicate}
 use Rattle.molecule.specs.Lists.{Bytes}
 use Rattle.molecule.specs.Check.{accepted, refused, check}
-use Rattle.tabulate.specs.Built.{TableAnswer, turnedBack, buildAnswer}
+use Rattle.tabulate.specs.Built.{turnedBack, buildAnswer}
 use Rattle.tabulate.specs.Counted.{countAnswer, tableAfter}
 
 module _ (r : Bytes) where

@@ -13,7 +13,7 @@ use Rattle.molecule.specs.Lists.{Bytes, fold}
 use Rattle.canonize.specs.Strings.{lexLe, same}
 use Rattle.canonize.specs.Label.{label}
 use Rattle.matches.specs.Table.{Group, place, groups}
-use Rattle.tabulate.specs.Noded.{apart, pairsWith, disjointPairs, pairsIn}
+use Rattle.tabulate.specs.Inner.Noded.{apart, pairsWith, disjointPairs, pairsIn}
 use Rattle.tabulate.proofs.Noding.{apart-yes, apart-no}
 
 apart-le : (x y : ℕ) → apart x y ≤ 1

@@ -12,21 +12,23 @@ use lib.Seq.{take-length}
 use Rattle.bitset.specs.Bits.{isDisjoint}
 use Rattle.molecule.specs.Lists.{fold}
 use Rattle.matches.specs.Table.{Group, note}
-use Rattle.enumerate.specs.Grouped.{groupAt}
-use Rattle.tabulate.specs.Noded.{bothNoted, nodesAfter, nodesOf, apart, pairsWith, disjointPairs, pairsIn, Noded, Beside, Named, Paired, ahead, Linked, Naming, Meeting, Rounding, Pairing, Groups, Grown}
+use Rattle.enumerate.specs.Inner.Grouped.{groupAt}
+use Rattle.tabulate.specs.Inner.Noded.{bothNoted, nodesAfter, nodesOf, apart, pairsWith, disjointPairs, pairsIn, Noded, Beside, Named, Paired, ahead, Linked, Naming, Meeting, Rounding, Pairing, Groups, Grown}
 use Rattle.enumerate.proofs.Chains.{note-length}
+use Rattle.enumerate.proofs.Placing.{group-first, group-later}
 use Rattle.tabulate.proofs.Noding.{both-yes, both-no, apart-yes, apart-no, boths-length, after-length, of-length, beside-then}
 
 -- ---- two candidates
 
-module _ (parts : List ℕ) (p : ℕ) (l nodes : List ℕ) (i j s count matches : ℕ) (w : Meeting parts p l nodes i j count matches) where
+module _ {parts : List ℕ} {p : ℕ} {l nodes : List ℕ} {i j count matches : ℕ} (w : Meeting parts p l nodes i j count matches) where
   test : (b : Bool) → isDisjoint (getD parts (p + i) 0) (getD parts (p + j) 0) ≡ b → isDisjoint (getD l i 0) (getD l j 0) ≡ b
-  test b e = rw (w .noded .sets i (w .one), w .noded .sets j (w .other)) at e
+  test b e = rw (w .noded .listed .sets i (w .one), w .noded .listed .sets j (w .other)) at e
 
   pub meet-first : Naming parts p l nodes i count
   meet-first = record { noded = w .noded; long = w .long; within = w .one }
 
-  pub meet-none : isDisjoint (getD parts (p + i) 0) (getD parts (p + j) 0) ≡ false → Paired parts p l (bothNoted (getD l i 0) nodes (getD l j 0)) (matches + apart (getD l i 0) (getD l j 0)) s count count matches
+  pub meet-none : {s : ℕ} → isDisjoint (getD parts (p + i) 0) (getD parts (p + j) 0) ≡ false
+      → Paired parts p l (bothNoted (getD l i 0) nodes (getD l j 0)) (matches + apart (getD l i 0) (getD l j 0)) s count count matches
   meet-none e = rw (both-no (getD l i 0) nodes (getD l j 0) (test false e)) (record {
     named = record {
       long = λ g. sym (w .long);
@@ -43,7 +45,8 @@ module _ (parts : List ℕ) (p : ℕ) (l nodes : List ℕ) (i j s count matches 
     meet-room = omega (arith, w .room, apart-yes (getD l i 0) (getD l j 0) (test true e))
 
     -- i is named: there are n nodes
-    module _ (then : List ℕ) (n : ℕ) (q : Beside parts then p count × ((l nodes : List ℕ) → Naming parts p l nodes i count → Named then p l (note nodes (getD l i 0)) s count n)) where
+    module _ {s : ℕ} {then : List ℕ} {n : ℕ} (q : Beside parts then p count
+        × ((l nodes : List ℕ) → Naming parts p l nodes i count → Named then p l (note nodes (getD l i 0)) s count n)) where
       first : Named then p l (note nodes (getD l i 0)) s count n
       first = q .1 l nodes meet-first
 
@@ -64,7 +67,8 @@ module _ (parts : List ℕ) (p : ℕ) (l nodes : List ℕ) (i j s count matches 
         meet-second = record { noded = first .noded h; long = sym (first .long h); within = w .other }
 
         -- j is named: there are k nodes
-        module _ (last : List ℕ) (k : ℕ) (q′ : Beside then last p n × ((l nodes : List ℕ) → Naming then p l nodes j n → Named last p l (note nodes (getD l j 0)) s n k)) where
+        module _ {last : List ℕ} {k : ℕ} (q′ : Beside then last p n
+            × ((l nodes : List ℕ) → Naming then p l nodes j n → Named last p l (note nodes (getD l j 0)) s n k)) where
           second : Named last p l (note (note nodes (getD l i 0)) (getD l j 0)) s n k
           second = q′ .1 l (note nodes (getD l i 0)) meet-second
 
@@ -138,8 +142,8 @@ pub record Round (old now : List ℕ) (p : ℕ) (l nodes sets : List ℕ) (i s c
   pub matches-are : m + pairsWith (getD l i 0) left ≡ matches + pairsWith (getD l i 0) sets
   pub starts : (a : ℕ) → count ≤ a → a < n → getD now (8 * p + a) 0 ≡ s
 
-module _ (old : List ℕ) (p : ℕ) (l nodes sets : List ℕ) (i s count matches : ℕ) (f : Rounding old p l nodes sets i count matches) where
-  pub round-start : Round old old p l nodes sets i s count matches count matches (getD old (5 * p + i) 0)
+module _ {old : List ℕ} {p : ℕ} {l nodes sets : List ℕ} {i count matches : ℕ} (f : Rounding old p l nodes sets i count matches) where
+  pub round-start : {s : ℕ} → Round old old p l nodes sets i s count matches count matches (getD old (5 * p + i) 0)
   round-start = record {
     list = nodes;
     left = sets;
@@ -152,7 +156,7 @@ module _ (old : List ℕ) (p : ℕ) (l nodes sets : List ℕ) (i s count matches
     starts = λ a g h. absurd (omega arith);
   }
 
-  module _ (now : List ℕ) (n m k : ℕ) (w : Round old now p l nodes sets i s count matches n m k) where
+  module _ {s : ℕ} {now : List ℕ} {n m k : ℕ} (w : Round old now p l nodes sets i s count matches n m k) where
     pub round-turn : k ≢ 0 → Turn old p l k (w .left)
     round-turn d = turn old p l k (w .left) (w .linked) d
 
@@ -182,7 +186,9 @@ module _ (old : List ℕ) (p : ℕ) (l nodes sets : List ℕ) (i s count matches
       }
 
       -- it meets candidate k - 1
-      module _ (b : Beside old now p count) (then : List ℕ) (r t : ℕ) (q : Beside now then p n × ((l nodes : List ℕ) → Meeting now p l nodes i (k - 1) n m → Paired then p l (bothNoted (getD l i 0) nodes (getD l (k - 1) 0)) (m + apart (getD l i 0) (getD l (k - 1) 0)) s n r t)) where
+      module _ (b : Beside old now p count) {then : List ℕ} {r t : ℕ}
+          (q : Beside now then p n × ((l nodes : List ℕ) → Meeting now p l nodes i (k - 1) n m
+          → Paired then p l (bothNoted (getD l i 0) nodes (getD l (k - 1) 0)) (m + apart (getD l i 0) (getD l (k - 1) 0)) s n r t)) where
         got : Paired then p l (bothNoted (getD l i 0) (w .list) (getD l (k - 1) 0)) (m + apart (getD l i 0) (getD l (k - 1) 0)) s n r t
         got = q .1 l (w .list) round-meeting
 
@@ -193,7 +199,7 @@ module _ (old : List ℕ) (p : ℕ) (l nodes sets : List ℕ) (i s count matches
         nodes-left = ap (λ (y : List ℕ). fold (bothNoted (getD l i 0)) (w .list) y) (sym (round-turn d .is)) ∙ w .nodes-are
 
         link : getD then (5 * p + (k - 1)) 0 ≡ getD old (5 * p + (k - 1)) 0
-        link = round-beside .middle (5 * p + (k - 1)) (omega arith) (omega (arith, round-turn d .within, f .noded .fits))
+        link = round-beside .middle (5 * p + (k - 1)) (omega arith) (omega (arith, round-turn d .within, f .noded .listed .fits))
 
         pub round-less : ahead p (getD then (5 * p + (k - 1)) 0) < ahead p k
         round-less = rw link (round-turn d .less)
@@ -241,7 +247,7 @@ pub record Walk (old now : List ℕ) (p : ℕ) (l nodes sets : List ℕ) (s coun
   pub matches-are : m + disjointPairs left ≡ matches + disjointPairs sets
   pub starts : (a : ℕ) → count ≤ a → a < n → getD now (8 * p + a) 0 ≡ s
 
-module _ (old : List ℕ) (p : ℕ) (l nodes sets : List ℕ) (first s count matches : ℕ) (f : Pairing old p l nodes sets first count matches) where
+module _ {old : List ℕ} {p : ℕ} {l nodes sets : List ℕ} {first count matches : ℕ} (f : Pairing old p l nodes sets first count matches) where
   pub walk-first : first < length l
   unfolding Linked
   walk-first = go sets (f .linked)
@@ -250,7 +256,7 @@ module _ (old : List ℕ) (p : ℕ) (l nodes sets : List ℕ) (first s count mat
       go [] w = absurd (omega (arith, w))
       go (x ∷ xs) w = omega (arith, w .1, w .2)
 
-  pub walk-start : Walk old old p l nodes sets s count matches count matches (first + 1)
+  pub walk-start : {s : ℕ} → Walk old old p l nodes sets s count matches count matches (first + 1)
   walk-start = record {
     list = nodes;
     left = sets;
@@ -263,7 +269,7 @@ module _ (old : List ℕ) (p : ℕ) (l nodes sets : List ℕ) (first s count mat
     starts = λ a g h. absurd (omega arith);
   }
 
-  module _ (now : List ℕ) (n m k : ℕ) (w : Walk old now p l nodes sets s count matches n m k) where
+  module _ {s : ℕ} {now : List ℕ} {n m k : ℕ} (w : Walk old now p l nodes sets s count matches n m k) where
     pub walk-turn : k ≢ 0 → Turn old p l k (w .left)
     walk-turn d = turn old p l k (w .left) (w .linked) d
 
@@ -284,19 +290,22 @@ module _ (old : List ℕ) (p : ℕ) (l nodes sets : List ℕ) (first s count mat
       pairs-after = ap disjointPairs (walk-turn d .is)
 
       link-now : getD now (5 * p + (k - 1)) 0 ≡ getD old (5 * p + (k - 1)) 0
-      link-now = b .middle (5 * p + (k - 1)) (omega arith) (omega (arith, walk-turn d .within, f .noded .fits))
+      link-now = b .middle (5 * p + (k - 1)) (omega arith) (omega (arith, walk-turn d .within, f .noded .listed .fits))
 
       pub walk-rounding : Rounding now p l (w .list) (walk-turn d .next) (k - 1) n m
       walk-rounding = record {
         noded = w .noded;
         long = w .long;
         within = walk-turn d .within;
-        linked = rw link-now (linked-kept old now p l (f .noded .fits) (λ i h. b .middle (5 * p + i) (omega arith) (omega arith)) (getD old (5 * p + (k - 1)) 0) (walk-turn d .next) (walk-turn d .linked));
+        linked = rw link-now (linked-kept old now p l (f .noded .listed .fits) (λ i h. b .middle (5 * p + i) (omega arith) (omega arith))
+            (getD old (5 * p + (k - 1)) 0) (walk-turn d .next) (walk-turn d .linked));
         room = omega (arith, f .room, w .matches-are, pairs-after);
       }
 
       -- candidate k - 1 meets those after it
-      module _ (then : List ℕ) (r t : ℕ) (q : Beside now then p n × ((l nodes sets : List ℕ) → Rounding now p l nodes sets (k - 1) n m → Paired then p l (fold (bothNoted (getD l (k - 1) 0)) nodes sets) (m + pairsWith (getD l (k - 1) 0) sets) s n r t)) where
+      module _ {then : List ℕ} {r t : ℕ} (q : Beside now then p n
+          × ((l nodes sets : List ℕ) → Rounding now p l nodes sets (k - 1) n m
+          → Paired then p l (fold (bothNoted (getD l (k - 1) 0)) nodes sets) (m + pairsWith (getD l (k - 1) 0) sets) s n r t)) where
         gone : Paired then p l (fold (bothNoted (getD l (k - 1) 0)) (w .list) (walk-turn d .next)) (m + pairsWith (getD l (k - 1) 0) (walk-turn d .next)) s n r t
         gone = q .1 l (w .list) (walk-turn d .next) walk-rounding
 
@@ -308,7 +317,7 @@ module _ (old : List ℕ) (p : ℕ) (l nodes sets : List ℕ) (first s count mat
         nodes-after = ap (λ (y : List ℕ). nodesAfter (w .list) y) (sym (walk-turn d .is)) ∙ w .nodes-are
 
         link-then : getD then (5 * p + (k - 1)) 0 ≡ getD old (5 * p + (k - 1)) 0
-        link-then = walk-beside .middle (5 * p + (k - 1)) (omega arith) (omega (arith, walk-turn d .within, f .noded .fits))
+        link-then = walk-beside .middle (5 * p + (k - 1)) (omega arith) (omega (arith, walk-turn d .within, f .noded .listed .fits))
 
         pub walk-less : ahead p (getD then (5 * p + (k - 1)) 0) < ahead p k
         walk-less = rw link-then (walk-turn d .less)
@@ -345,10 +354,10 @@ module _ (old : List ℕ) (p : ℕ) (l nodes sets : List ℕ) (first s count mat
 -- ---- all groups
 
 nodes-suc : (gs : List Group) (nodes : List ℕ) (g : ℕ) → g < length gs → nodesOf nodes (take (suc g) gs) ≡ nodesAfter (nodesOf nodes (take g gs)) (groupAt gs g .sets)
-unfolding nodesOf groupAt
+unfolding nodesOf
 nodes-suc [] nodes g h = absurd (omega arith)
-nodes-suc (x ∷ gs) nodes zero h = refl
-nodes-suc (x ∷ gs) nodes (suc g) h = nodes-suc gs (nodesAfter nodes (x .sets)) g (omega arith)
+nodes-suc (x ∷ gs) nodes zero h = rw (group-first x gs)
+nodes-suc (x ∷ gs) nodes (suc g) h = rw (group-later x gs g) (nodes-suc gs (nodesAfter nodes (x .sets)) g (omega arith))
 
 nodes-mono : (gs : List Group) (nodes : List ℕ) (j k : ℕ) → j ≤ k → length (nodesOf nodes (take j gs)) ≤ length (nodesOf nodes (take k gs))
 unfolding nodesOf
@@ -358,10 +367,10 @@ nodes-mono [] nodes (suc j) (suc k) h = omega arith
 nodes-mono (x ∷ gs) nodes (suc j) (suc k) h = nodes-mono gs (nodesAfter nodes (x .sets)) j k (omega arith)
 
 pairs-suc : (gs : List Group) (g : ℕ) → g < length gs → pairsIn (take (suc g) gs) ≡ pairsIn (take g gs) + disjointPairs (groupAt gs g .sets)
-unfolding pairsIn groupAt
+unfolding pairsIn
 pairs-suc [] g h = absurd (omega arith)
-pairs-suc (x ∷ gs) zero h = omega arith
-pairs-suc (x ∷ gs) (suc g) h = omega (arith, pairs-suc gs g (omega arith))
+pairs-suc (x ∷ gs) zero h = rw (group-first x gs) (omega arith)
+pairs-suc (x ∷ gs) (suc g) h = rw (group-later x gs g) (omega (arith, pairs-suc gs g (omega arith)))
 
 pairs-le : (gs : List Group) (g : ℕ) → pairsIn (take g gs) ≤ pairsIn gs
 unfolding pairsIn
@@ -377,12 +386,12 @@ pub record Whole (now : List ℕ) (p : ℕ) (l nodes : List ℕ) (gs : List Grou
   pub matches : m ≡ pairsIn (take g gs)
   pub starts : (k i : ℕ) → k < g → length (nodesOf nodes (take k gs)) ≤ i → i < length (nodesOf nodes (take (suc k) gs)) → getD now (8 * p + i) 0 ≡ length (nodesOf nodes (take k gs))
 
-module _ (old : List ℕ) (p : ℕ) (l nodes : List ℕ) (gs : List Group) (groups count : ℕ) (f : Groups old p l nodes gs groups count) where
+module _ {old : List ℕ} {p : ℕ} {l nodes : List ℕ} {gs : List Group} {groups count : ℕ} (f : Groups old p l nodes gs groups count) where
   pub whole-start : Whole old p l nodes gs count count 0 0
   unfolding nodesOf pairsIn
   whole-start = record { noded = f .noded; long = f .long; more = omega arith; matches = refl; starts = λ k i h. absurd (omega arith) }
 
-  module _ (now : List ℕ) (n m g : ℕ) (w : Whole now p l nodes gs count n m g) where
+  module _ {now : List ℕ} {n m g : ℕ} (w : Whole now p l nodes gs count n m g) where
     pub whole-done : g ≡ groups → Grown now p l nodes gs n m
     whole-done e =
         let z : take g gs ≡ gs = ap (λ (k : ℕ). take k gs) (e ∙ sym (f .many)) ∙ take-length gs in
@@ -396,8 +405,8 @@ module _ (old : List ℕ) (p : ℕ) (l nodes : List ℕ) (gs : List Group) (grou
         }
 
     module _ (h : g < groups) (b : Beside old now p count) where
-      group-first : getD now (4 * p + g) 0 ≡ getD old (4 * p + g) 0
-      group-first = b .middle (4 * p + g) (omega arith) (omega (arith, f .few))
+      first-kept : getD now (4 * p + g) 0 ≡ getD old (4 * p + g) 0
+      first-kept = b .middle (4 * p + g) (omega arith) (omega (arith, f .few))
 
       one-more : nodesOf nodes (take (suc g) gs) ≡ nodesAfter (nodesOf nodes (take g gs)) (groupAt gs g .sets)
       one-more = nodes-suc gs nodes g (omega (arith, f .many))
@@ -409,12 +418,15 @@ module _ (old : List ℕ) (p : ℕ) (l nodes : List ℕ) (gs : List Group) (grou
       whole-pairing = record {
         noded = w .noded;
         long = w .long;
-        linked = rw group-first (linked-kept old now p l (f .noded .fits) (λ i j. b .middle (5 * p + i) (omega arith) (omega arith)) (suc (getD old (4 * p + g) 0)) (groupAt gs g .sets) (f .linked g (omega (arith, f .many))));
+        linked = rw first-kept (linked-kept old now p l (f .noded .listed .fits) (λ i j. b .middle (5 * p + i) (omega arith) (omega arith))
+            (suc (getD old (4 * p + g) 0)) (groupAt gs g .sets) (f .linked g (omega (arith, f .many))));
         room = omega (arith, f .room, w .matches, pairs-more, pairs-le gs (suc g));
       }
 
       -- group g is paired up
-      module _ (then : List ℕ) (r t : ℕ) (q : Beside now then p n × ((l nodes sets : List ℕ) → Pairing now p l nodes sets (getD now (4 * p + g) 0) n m → Paired then p l (nodesAfter nodes sets) (m + disjointPairs sets) n n r t)) where
+      module _ {then : List ℕ} {r t : ℕ} (q : Beside now then p n
+          × ((l nodes sets : List ℕ) → Pairing now p l nodes sets (getD now (4 * p + g) 0) n m
+          → Paired then p l (nodesAfter nodes sets) (m + disjointPairs sets) n n r t)) where
         made : Paired then p l (nodesAfter (nodesOf nodes (take g gs)) (groupAt gs g .sets)) (m + disjointPairs (groupAt gs g .sets)) n n r t
         made = q .1 l (nodesOf nodes (take g gs)) (groupAt gs g .sets) whole-pairing
 

@@ -9,16 +9,19 @@ use native.Mathlib.Omega.{arith}
 use lib.Dec.{eqb}
 use lib.ListN.{length, getD, set, length-append, length-set, List·getD-append}
 use lib.Seq.{getD-at, getD-set-same, getD-set-other}
+use Rattle.clear.specs.Inner.Part.{zeroPart}
+use Rattle.clear.proofs.Part.{part-length, part-below, part-zero, part-above}
 use Rattle.bitset.specs.Bits.{isDisjoint}
 use Rattle.bitset.proofs.Bools.{two}
 use Rattle.molecule.specs.Lists.{Bytes, any, fold}
-use Rattle.canonize.proofs.Lists.{Distinct}
+use Rattle.molecule.proofs.Perms.{Distinct}
 use Rattle.matches.specs.Table.{Group, Table, note, meet, pairUp, groups, extend}
-use Rattle.enumerate.specs.Found.{Found}
-use Rattle.enumerate.specs.Grouped.{Chain, ends, then, Grouped}
-use Rattle.tabulate.specs.Noded.{bothNoted, nodesAfter, nodesOf, apart, pairsWith, disjointPairs, pairsIn, flagOf, Noded, Beside, Named, ahead, Linked, AllLinked, Naming, Cleared}
-use Rattle.matches.proofs.Noting.{distinct-at}
-use Rattle.enumerate.proofs.Chains.{any-end, any-hit, note-known, note-fresh, note-length}
+use Rattle.enumerate.specs.Inner.Bucketed.{Bucketed}
+use Rattle.enumerate.specs.Inner.Grouped.{groupAt, Chain, Grouped}
+use Rattle.tabulate.specs.Inner.Noded.{bothNoted, nodesAfter, nodesOf, apart, pairsWith, disjointPairs, pairsIn, flagOf, Noded, Beside, Named, ahead, Linked, AllLinked, Naming}
+use Rattle.matches.proofs.Laws.{distinct-at}
+use Rattle.enumerate.proofs.Chains.{enumerated-same, bucketed-same, any-end, any-hit, note-known, note-fresh, note-length}
+use Rattle.enumerate.proofs.Grouping.{chain-below, chain-rise, chain-split}
 
 -- ---- the definition by lists
 
@@ -232,10 +235,11 @@ module _ (parts : List ℕ) (p : ℕ) (l nodes : List ℕ) (i s n : ℕ) (w : Na
 
     module _ (room : n < p) where
       low : i < p
-      low = omega (arith, w .within, w .noded .fits)
+      low = omega (arith, w .within, w .noded .listed .fits)
 
       number-of : (j : ℕ) → j ≤ n → Dec (j ≡ n) → getD (named parts p i s n) j 0 ≡ getD (nodes ++ (getD l i 0 ∷ [])) j 0
-      number-of j k (yes e) = rw e (named-node parts p i s n room low (w .noded .wide) ∙ w .noded .sets i (w .within) ∙ sym (getD-at nodes (getD l i 0) [] 0 n (w .long)))
+      number-of j k (yes e) = rw e (named-node parts p i s n room low (w .noded .wide) ∙ w .noded .listed .sets i (w .within)
+          ∙ sym (getD-at nodes (getD l i 0) [] 0 n (w .long)))
       number-of j k (no e) =
           named-other parts p i s n room low j e (λ q. omega arith) (λ q. omega arith)
           ∙ w .noded .numbers j (omega (arith, w .long))
@@ -251,7 +255,7 @@ module _ (parts : List ℕ) (p : ℕ) (l nodes : List ℕ) (i s n : ℕ) (w : Na
       flag-of : (j : ℕ) → j < length l → Dec (j ≡ i) → getD (named parts p i s n) (7 * p + j) 0 ≡ flagOf (nodes ++ (getD l i 0 ∷ [])) (getD l j 0)
       flag-of j k (yes e) = rw e (named-flag parts p i s n room low (w .noded .wide) ∙ sym (flag-this (getD l i 0) nodes))
       flag-of j k (no e) =
-          named-other parts p i s n room low (7 * p + j) (λ q. omega arith) (λ q. omega (arith, w .noded .fits)) (λ q. e (omega arith))
+          named-other parts p i s n room low (7 * p + j) (λ q. omega arith) (λ q. omega (arith, w .noded .listed .fits)) (λ q. e (omega arith))
           ∙ w .noded .flags j k
           ∙ sym (flag-other (getD l j 0) (getD l i 0) nodes (differ j k e))
 
@@ -262,9 +266,8 @@ module _ (parts : List ℕ) (p : ℕ) (l nodes : List ℕ) (i s n : ℕ) (w : Na
         more = λ g. omega arith;
         noded = λ g. record {
           wide = omega (arith, named-long parts p i s n room low, w .noded .wide);
-          fits = w .noded .fits;
+          listed = enumerated-same (λ j k m. beside-named parts p i s n room low .middle j k (omega arith)) (w .noded .listed);
           few = omega (arith, more-length);
-          sets = λ j k. beside-named parts p i s n room low .middle (p + j) (omega arith) (omega (arith, w .noded .fits)) ∙ w .noded .sets j k;
           numbers = λ j k. number-of j (omega (arith, more-length)) (ℕ-discrete j n);
           flags = λ j k. flag-of j k (ℕ-discrete j i);
           distinct = w .noded .distinct;
@@ -275,57 +278,62 @@ module _ (parts : List ℕ) (p : ℕ) (l nodes : List ℕ) (i s n : ℕ) (w : Na
 
 -- ---- clearing
 
-pub cleared-start : (old : List ℕ) (p : ℕ) → Cleared old old p 0
-cleared-start old p = record { long = refl; low = λ i h. refl; high = λ i h. refl; none = λ i h. absurd (omega arith) }
+-- the first count words of region 7 are 0, and all outside of it is as it was
+pub record Cleared (old now : List ℕ) (p count : ℕ) : Type 0 where
+  pub long : length now ≡ length old
+  pub low : (i : ℕ) → i < 7 * p → getD now i 0 ≡ getD old i 0
+  pub high : (i : ℕ) → 8 * p ≤ i → getD now i 0 ≡ getD old i 0
+  pub none : (i : ℕ) → i < count → getD now (7 * p + i) 0 ≡ 0
 
-pub cleared-next : (old now : List ℕ) (p i : ℕ) → 9 * p ≤ length old → i < p → Cleared old now p i → Cleared old (set now (7 * p + i) 0) p (i + 1)
-cleared-next old now p i wide h w = record {
-  long = length-set now (7 * p + i) 0 ∙ w .long;
-  low = λ j g. getD-set-other now (7 * p + i) j 0 0 (λ e. omega arith) ∙ w .low j g;
-  high = λ j g. getD-set-other now (7 * p + i) j 0 0 (λ e. omega arith) ∙ w .high j g;
-  none = λ j g. go j g (ℕ-discrete j i);
-}
-  where
-    go : (j : ℕ) → j < i + 1 → Dec (j ≡ i) → getD (set now (7 * p + i) 0) (7 * p + j) 0 ≡ 0
-    go j g (yes e) = rw e (getD-set-same now (7 * p + i) 0 0 (omega (arith, w .long)))
-    go j g (no e) = getD-set-other now (7 * p + i) (7 * p + j) 0 0 (λ q. e (omega arith)) ∙ w .none j (omega arith)
-
-pub cleared-done : (old now : List ℕ) (p i count : ℕ) → count ≤ i → Cleared old now p i → Cleared old now p count
-cleared-done old now p i count h w = record { long = w .long; low = w .low; high = w .high; none = λ j g. w .none j (omega arith) }
+pub cleared : (old now : List ℕ) (p count : ℕ) → count ≤ p → 9 * p ≤ length old → now ≡ zeroPart old (7 * p) (7 * p + count) → Cleared old now p count
+cleared old now p count few wide e =
+    let order : 7 * p ≤ 7 * p + count = omega arith in
+    let fits : 7 * p + count ≤ length old = omega arith in
+    rw e (record {
+      long = part-length old (7 * p) (7 * p + count) order fits;
+      low = part-below old (7 * p) (7 * p + count) order fits;
+      high = λ i h. part-above old (7 * p) (7 * p + count) order fits i (omega arith);
+      none = λ i h. part-zero old (7 * p) (7 * p + count) order fits (7 * p + i) (omega arith) (omega arith);
+    })
 
 -- the candidates are kept
-pub cleared-found : (old now : List ℕ) (p count : ℕ) (l : List ℕ) → Cleared old now p count → Found old p l → Found now p l
-cleared-found old now p count l w f = record {
-  some = f .some;
-  wide = omega (arith, w .long, f .wide);
-  fits = f .fits;
-  sets = λ i h. w .low (p + i) (omega (arith, f .fits)) ∙ f .sets i h;
-  before = λ i h. w .low (2 * p + i) (omega (arith, f .fits)) ∙ f .before i h;
-  last = λ i h. w .low (3 * p + i) (omega arith) ∙ f .last i h;
-}
+pub cleared-bucketed : (old now : List ℕ) (p count : ℕ) (l : List ℕ) → Cleared old now p count → Bucketed old p l → Bucketed now p l
+cleared-bucketed old now p count l w f = bucketed-same (w .long) (λ i h. w .low i (omega arith)) f
 
 -- ---- for the caller
 
 -- no candidate is a node, and the flags are clear
-pub noded-start : (parts : List ℕ) (p : ℕ) (l nodes : List ℕ) → Found parts p l → 9 * p ≤ length parts → Distinct l → length nodes ≤ p → ((i : ℕ) → i < length nodes → getD parts i 0 ≡ getD nodes i 0)
+pub noded-start : (parts : List ℕ) (p : ℕ) (l nodes : List ℕ) → Bucketed parts p l → 9 * p ≤ length parts → Distinct l → length nodes ≤ p
+    → ((i : ℕ) → i < length nodes → getD parts i 0 ≡ getD nodes i 0)
     → ((i : ℕ) → i < length l → any (eqb (getD l i 0)) nodes ≡ false) → ((i : ℕ) → i < length l → getD parts (7 * p + i) 0 ≡ 0) → Noded parts p l nodes
 noded-start parts p l nodes f wide d few numbers fresh none = record {
   wide = wide;
-  fits = f .fits;
+  listed = f .listed;
   few = few;
-  sets = f .sets;
   numbers = numbers;
   flags = λ i h. none i h ∙ sym (flag-none nodes (getD l i 0) (fresh i h));
   distinct = λ i j h k e. omega (arith, distinct-at 0 l d i j (omega arith) k e);
 }
 
 -- the chains of groups, as the functions read them
-chain-linked : {parts l : List ℕ} {p n i e : ℕ} {sets : List ℕ} → n ≤ length l → length l ≤ p → Chain parts p l n i sets e → (i < n) × Linked parts p l (suc i) sets
+chain-linked : {parts l : List ℕ} {p n e : ℕ} (sets : List ℕ) (i : ℕ) → n ≤ length l → length l ≤ p → Chain parts p l n i sets e → Linked parts p l (suc i) sets
 unfolding Linked ahead
-chain-linked h k (ends {i} a b) = (a, (i, refl, omega arith, refl, rw b (omega arith), b))
-chain-linked {parts} {l} {p} h k (then {i} {j} {e} {sets} a b c) =
-    let w = chain-linked h k c in
-    (omega (arith, w .0), (i, refl, omega (arith, w .0), refl, rw b (omega (arith, w .0)), rw b (w .1)))
+chain-linked [] i h k c = let z = chain-split c in absurd (omega (arith, ap (λ (y : List ℕ). length y) (z .1)))
+chain-linked {parts} {l} {p} {n} {e} (x ∷ xs) i h k c = go (chain-split c) (λ j d. chain-linked xs j h k d)
+  where
+    below : i < n
+    below = omega (arith, chain-rise c, chain-below c)
+
+    go : (rest : List ℕ) × (x ∷ xs ≡ getD l i 0 ∷ rest)
+        × (((getD parts (5 * p + i) 0 ≡ 0) × (rest ≡ [])) ⊎ ((j : ℕ) × (i < j) × (getD parts (5 * p + i) 0 ≡ suc j) × Chain parts p l n j rest e))
+        → ((j : ℕ) → Chain parts p l n j xs e → Linked parts p l (suc j) xs) → Linked parts p l (suc i) (x ∷ xs)
+    go (rest, q, inl (a, b)) ih =
+        let f : xs ≡ [] = cc in
+        (i, refl, omega (arith, below), cc, rw a (omega (arith, below)), rw (f, a))
+    go (rest, q, inr (j, a, b, d)) ih =
+        let f : rest ≡ xs = cc in
+        let d′ : Chain parts p l n j xs e = rw f at d in
+        (i, refl, omega (arith, below), cc, rw b (omega (arith, chain-rise d′, chain-below d′)), rw b (ih j d′))
 
 pub grouped-linked : (r : Bytes) (parts : List ℕ) (p : ℕ) (l : List ℕ) (gs : List Group) → length l ≤ p → Grouped r parts p l (length l) gs → AllLinked parts p l gs
-grouped-linked r parts p l gs h g k j = chain-linked (omega arith) h (g .chains k j) .1
+grouped-linked r parts p l gs h g k j = chain-linked (groupAt gs k .sets) (getD parts (4 * p + k) 0) (omega arith) h (g .chains k j)

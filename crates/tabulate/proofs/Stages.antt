@@ -10,8 +10,8 @@ use Rattle.molecule.specs.Lists.{Bytes}
 use Rattle.molecule.specs.Record.{bonds}
 use Rattle.molecule.proofs.Lists.{length-list}
 use Rattle.matches.specs.Table.{Table, sizes, singles}
-use Rattle.tabulate.specs.Sized.{tableAt, nodesAt}
-use Rattle.matches.proofs.Sizes.{Round, next, newest, round-next, start, start-round, unsorted}
+use Rattle.tabulate.specs.Inner.Stage.{tableAt, nodesAt}
+use Rattle.matches.proofs.Laws.{Round, next, newest, round-next, start, start-round}
 
 pub singles-length : (r : Bytes) → length (singles r) ≡ bonds r
 unfolding singles
@@ -62,11 +62,6 @@ module _ (r : Bytes) where
   pub table-zero : tableAt r 0 ≡ start r
   unfolding tableAt sizes
   table-zero = refl
-
-  -- the table before its matches are sorted is the one after as many sizes as there are bonds
-  pub table-unsorted : tableAt r (bonds r) ≡ unsorted r
-  unfolding tableAt
-  table-unsorted = refl
 
   pub nodes-zero : nodesAt r 0 ≡ 0
   unfolding nodesAt

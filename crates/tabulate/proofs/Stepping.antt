@@ -22,18 +22,19 @@ use Rattle.molecule.proofs.Accepted.{accepted-formed}
 use Rattle.molecule.proofs.Components.{words-at}
 use Rattle.molecule.proofs.Lists.{at-mem, any-some, length-list, list-at}
 use Rattle.matches.specs.Table.{Group, Table, candidates, groups, extend, sizes, singles}
-use Rattle.enumerate.specs.Found.{Kept, Counted, grownBy}
-use Rattle.enumerate.specs.Grouped.{groupAt, Keyed, Grouped, Ready, Around}
-use Rattle.tabulate.specs.Noded.{nodesAfter, nodesOf, pairsIn, Beside, Groups, Grown, Cleared}
-use Rattle.matches.specs.Descending.{Akin, Starts}
-use Rattle.matches.specs.Written.{startIn}
-use Rattle.tabulate.specs.Sized.{tableAt, nodesAt, Held, Sizing, Sized}
-use Rattle.matches.proofs.ByLabel.{before-differ, groups-every}
-use Rattle.matches.proofs.Pairing.{pairUp-grows}
-use Rattle.matches.proofs.Sizes.{Node, candidates-node, candidates-distinct, single-node}
+use Rattle.enumerate.specs.Inner.Bucketed.{Spared, Collected, grownBy}
+use Rattle.enumerate.specs.Inner.Grouped.{groupAt, Keyed, Grouped, Groupable, Around}
+use Rattle.tabulate.specs.Inner.Noded.{nodesAfter, nodesOf, pairsIn, Beside, Groups, Grown}
+use Rattle.matches.specs.Inner.Descending.{Akin, Starts}
+use Rattle.matches.specs.Inner.Written.{startIn}
+use Rattle.tabulate.specs.Inner.Stage.{tableAt, nodesAt, Stage, Sizing, NextSize}
+use Rattle.matches.proofs.Laws.{before-differ, groups-every}
+use Rattle.matches.proofs.Laws.{pairUp-grows}
+use Rattle.matches.proofs.Laws.{Node, candidates-node, candidates-distinct, single-node}
 use Rattle.enumerate.proofs.Candidates.{grown-candidates}
-use Rattle.enumerate.proofs.Grouping.{found-around}
-use Rattle.tabulate.proofs.Noding.{pairUp-nodes, extend-nodes, extend-matches, after-length, cleared-found, noded-start, grouped-linked}
+use Rattle.enumerate.proofs.Placing.{group-first, group-later, group-mem}
+use Rattle.enumerate.proofs.Grouping.{bucketed-around}
+use Rattle.tabulate.proofs.Noding.{pairUp-nodes, extend-nodes, extend-matches, after-length, Cleared, cleared-bucketed, noded-start, grouped-linked}
 use Rattle.tabulate.proofs.Fitting.{pairs-fit}
 use Rattle.tabulate.proofs.Stages.{singles-length, parentsAt, nodes-suc, table-next, parents-kept, table-round, table-round-next}
 
@@ -80,10 +81,12 @@ block (g ∷ gs) nodes i a b = go (decLt i (length (nodesAfter nodes (g .sets)))
 
 -- and is a member of that group
 block-member : (gs : List Group) (nodes : List ℕ) (k i : ℕ) → Block nodes gs k i → Mem (getD (nodesOf nodes gs) i 0) (groupAt gs k .sets)
-unfolding nodesOf groupAt
+unfolding nodesOf
 block-member [] nodes k i w = absurd (omega (arith, w .within))
-block-member (g ∷ gs) nodes zero i w = mem-cast (of-stays gs (nodesAfter nodes (g .sets)) i (w .high)) (after-member nodes (g .sets) i (w .low) (w .high))
-block-member (g ∷ gs) nodes (suc k) i w = block-member gs (nodesAfter nodes (g .sets)) k i (record { within = omega (arith, w .within); low = w .low; high = w .high })
+block-member (g ∷ gs) nodes zero i w = rw (group-first g gs)
+    (mem-cast (of-stays gs (nodesAfter nodes (g .sets)) i (w .high)) (after-member nodes (g .sets) i (w .low) (w .high)))
+block-member (g ∷ gs) nodes (suc k) i w =
+    rw (group-later g gs k) (block-member gs (nodesAfter nodes (g .sets)) k i (record { within = omega (arith, w .within); low = w .low; high = w .high }))
 
 -- ---- where their groups start
 
@@ -184,8 +187,8 @@ module _ (r : Bytes) (k : ℕ) (h : nodesAt r k < nodesAt r (suc k)) where
           absurd (omega (arith, table-round r k h .fine (w .0) (w .1), ap size (eqb-true x (w .0) (w .2)), candidate x m .many))
 
   member-sized : (j x : ℕ) → j < length (groups r found) → Mem x (groupAt (groups r found) j .sets) → size x ≡ suc (suc k)
-  unfolding groupAt
-  member-sized j x l m = groups-every r (λ y b. size y ≡ suc (suc k)) found (λ y u. candidate y u .many) (groupAt (groups r found) j) (at-mem (record { key = []; sets = [] }) (groups r found) j l) x m
+  member-sized j x l m = groups-every r (λ y b. size y ≡ suc (suc k)) found (λ y u. candidate y u .many) (groupAt (groups r found) j)
+      (group-mem (groups r found) j l) x m
 
   node-small : (i : ℕ) → i < length (tableAt r k .nodes) → size (getD (tableAt r k .nodes) i 0) < suc (suc k)
   node-small i l = omega (arith, table-round r k h .fine (getD (tableAt r k .nodes) i 0) (at-mem 0 (tableAt r k .nodes) i l))
@@ -198,7 +201,7 @@ nodes-need r (suc k) h = omega (arith, next-need r k (parents-kept r k h))
 
 -- ---- one size
 
-module _ (r : Bytes) (ok : check r ≡ accepted) (parts : List ℕ) (p k from to : ℕ) (w : Sizing r parts p k from to) where
+module _ {r : Bytes} {parts : List ℕ} {p k from to : ℕ} (w : Sizing r parts p k from to) where
   abbrev nodes : List ℕ
   nodes = tableAt r k .nodes
 
@@ -223,7 +226,7 @@ module _ (r : Bytes) (ok : check r ≡ accepted) (parts : List ℕ) (p k from to
   parents-in : slice from to parts ≡ parentsAt r k
   parents-in = ap (drop from) nodes-in ∙ ap (λ (n : ℕ). drop n nodes) (w .older)
 
-  module _ (touch : List ℕ) (t : touch ≡ touchingWords r) where
+  module _ {touch : List ℕ} (ok : check r ≡ accepted) (t : touch ≡ touchingWords r) where
     touch-at : (s x : ℕ) → Mem s (parentsAt r k) → bit s x ≡ 1 → getD touch x 0 ≡ touching r x
     touch-at s x m b =
         let l : x < bonds r = member-lt (bonds r) s x (table-round r k some .young s m .own) b in
@@ -232,12 +235,12 @@ module _ (r : Bytes) (ok : check r ≡ accepted) (parts : List ℕ) (p k from to
     found-these : grownBy (λ (i : ℕ). getD touch i 0) [] (slice from to parts) ≡ these
     found-these = ap (grownBy (λ (i : ℕ). getD touch i 0) []) parents-in ∙ grown-candidates r (λ (i : ℕ). getD touch i 0) (parentsAt r k) touch-at
 
-    module _ (one : List ℕ) (count : ℕ) (v : Kept parts one p × Counted one p (grownBy (λ (i : ℕ). getD touch i 0) [] (slice from to parts)) count) where
-      counted : Counted one p these count
-      counted = subst (λ (l : List ℕ). Counted one p l count) found-these (v .1)
+    module _ {one : List ℕ} {count : ℕ} (v : Spared parts one p × Collected one p (grownBy (λ (i : ℕ). getD touch i 0) [] (slice from to parts)) count) where
+      counted : Collected one p these count
+      counted = subst (λ (l : List ℕ). Collected one p l count) found-these (v .1)
 
       -- the candidates have no room
-      pub sizing-over : p < count → Sized r one p k count 0
+      pub sizing-over : p < count → NextSize r one p k count 0
       sizing-over h = record {
         held = λ g. absurd (omega arith);
         all = λ g. absurd (omega arith);
@@ -253,16 +256,16 @@ module _ (r : Bytes) (ok : check r ≡ accepted) (parts : List ℕ) (p k from to
         pub sizing-count : length these ≡ count
         sizing-count = sym (counted .count few)
 
-        module _ (two : List ℕ) (c : Cleared one two p count) where
-          pub sizing-ready : Ready r two p these
+        module _ {two : List ℕ} (c : Cleared one two p count) where
+          pub sizing-ready : Groupable r two p these
           sizing-ready = record {
-            found = cleared-found one two p count these c (counted .found few);
+            found = cleared-bucketed one two p count these c (counted .found few);
             wide = omega (arith, c .long, sizing-wide);
             own = λ s m. candidate r k some s m .own;
             connected = λ s m. candidate r k some s m .whole;
           }
 
-          module _ (three : List ℕ) (g : ℕ) (o : Around two three p) (d : (g ≡ length (groups r these)) × Grouped r three p these count (groups r these)) where
+          module _ {three : List ℕ} {g : ℕ} (o : Around two three p) (d : (g ≡ length (groups r these)) × Grouped r three p these count (groups r these)) where
             grouped : Grouped r three p these (length these) (groups r these)
             grouped = subst (λ (n : ℕ). Grouped r three p these n (groups r these)) (counted .count few) (d .1)
 
@@ -273,7 +276,8 @@ module _ (r : Bytes) (ok : check r ≡ accepted) (parts : List ℕ) (p k from to
 
             pub sizing-groups : Groups three p these nodes (groups r these) g to
             sizing-groups = record {
-              noded = noded-start three p these nodes (found-around o (sizing-ready .found)) (omega (arith, o .long, c .long, sizing-wide)) (candidates-distinct r (parentsAt r k)) (omega (arith, long, sizing-room)) number-at
+              noded = noded-start three p these nodes (bucketed-around o (sizing-ready .found)) (omega (arith, o .long, c .long, sizing-wide))
+                  (candidates-distinct r (parentsAt r k)) (omega (arith, long, sizing-room)) number-at
                   (λ i h. candidate-new r k some (getD these i 0) (at-mem 0 these i h)) (λ i h. o .middle (7 * p + i) (omega arith) (omega (arith, sizing-count)) ∙ c .none i (omega (arith, sizing-count)));
               long = long;
               many = sym (d .0);
@@ -282,7 +286,7 @@ module _ (r : Bytes) (ok : check r ≡ accepted) (parts : List ℕ) (p k from to
               room = omega (arith, pairs-fit r these (omega (arith, sizing-count, w .held .clamped)));
             }
 
-            module _ (four : List ℕ) (n m : ℕ) (b : Beside three four p to) (f : Grown four p these nodes (groups r these) n m) where
+            module _ {four : List ℕ} {n m : ℕ} (b : Beside three four p to) (f : Grown four p these nodes (groups r these) n m) where
               start-kept : (i : ℕ) → i < length nodes → startIn four p i ≡ startIn parts p i
               start-kept i h =
                   let l : i < p = omega (arith, long, sizing-room) in
@@ -303,7 +307,7 @@ module _ (r : Bytes) (ok : check r ≡ accepted) (parts : List ℕ) (p k from to
                       rw (next-needs r k some, List·getD-append (tableAt r k .needs) (max (length these) (nodesAt r (suc (suc k))) ∷ []) 0 i e) (w .held .fits i e)
                   go (no q) = let e : i ≡ suc (suc k) = omega (arith, table-round-next r k some .count) in rw e (omega (arith, next-need r k some, all-of h, sizing-count))
 
-              pub sizing-done : Sized r four p k n m
+              pub sizing-done : NextSize r four p k n m
               sizing-done = record {
                 held = λ h. record {
                   wide = omega (arith, b .long, o .long, c .long, sizing-wide);
@@ -359,7 +363,7 @@ module _ (r : Bytes) (old now : List ℕ) (p : ℕ) (w : Laid old now p (bonds r
       let e : startIn now p x ≡ x = w .starts x l in
       (omega arith, λ y b. (λ a. absurd (omega arith), λ a. absurd (omega (arith, a .big, single-node r (getD (singles r) x 0) (at-mem 0 (singles r) x h) .many))))
 
-  held-start : Held r now p 0
+  held-start : Stage r now p 0
   unfolding tableAt sizes nodesAt
   held-start = record {
     wide = omega (arith, w .long);
@@ -375,6 +379,7 @@ module _ (r : Bytes) (old now : List ℕ) (p : ℕ) (w : Laid old now p (bonds r
       need (suc zero) h = fits
       need (suc (suc i)) h = absurd (omega arith)
 
-pub laid-held : (old now : List ℕ) (p n i : ℕ) → Laid old now p i → n ≤ i → 0 < p → p ≤ 4294967295 → 12 * p ≤ length old → n ≤ p → (r : Bytes) → bonds r ≡ n → Held r now p 0
+pub laid-held : (old now : List ℕ) (p n i : ℕ) → Laid old now p i → n ≤ i → 0 < p → p ≤ 4294967295 → 12 * p ≤ length old → n ≤ p → (r : Bytes) → bonds r ≡ n
+    → Stage r now p 0
 laid-held old now p n i w h some clamped wide fits r e =
     held-start r old now p (record { long = w .long; nodes = λ j l. w .nodes j (omega arith); starts = λ j l. w .starts j (omega arith) }) some clamped wide (omega arith)

@@ -9,8 +9,8 @@ use lib.Seq.{sets, length-sets, sets-eq}
 use Rattle.bitset.specs.Bits.{isDisjoint}
 use Rattle.molecule.specs.Lists.{filter}
 use Rattle.matches.specs.Table.{Match}
-use Rattle.matches.specs.Descending.{countdown, withEach, descend}
-use Rattle.matches.specs.Written.{fourWords, wordsOf}
+use Rattle.matches.specs.Inner.Descending.{countdown, withEach, descend}
+use Rattle.matches.specs.Inner.Written.{fourWords, wordsOf}
 
 -- ---- words
 

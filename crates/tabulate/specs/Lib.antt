@@ -1,5 +1,4 @@
--- What the parts table holds while the match table is built, and what build and count answer.
-pub mod Noded
-pub mod Sized
+-- What build and count answer, and what the parts table holds while the match table is built.
 pub mod Built
 pub mod Counted
+pub mod Inner

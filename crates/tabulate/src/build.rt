@@ -1,13 +1,15 @@
-// The match table of a record, size by size, and its matches written down. Regions of parts as in specs/Noded.antt.
+// The match table of a record, size by size, and its matches written down. Regions of parts as in specs/Inner/Noded.antt.
 ghost use mathlib.Core.Path.{_≡_};
 ghost use Prim.Native.Nat.{_*_, _≤_};
 ghost use lib.ListN.{length};
 ghost use Rattle.molecule.specs.Record.{bonds};
 ghost use Rattle.molecule.specs.Touch.{bondsAtWords, touchingWords};
 ghost use Rattle.molecule.specs.Check.{check, accepted};
-ghost use Rattle.canonize.specs.Buffers.{Slots};
+ghost use Rattle.canonize.specs.Inner.Slate.{Slate};
 ghost use Rattle.matches.specs.Rows.{partsRoom, pairsRoom};
-ghost use Rattle.tabulate.specs.Built.{buildAnswer, pairsAfter, answerOf, Ended};
+ghost use Rattle.tabulate.specs.Built.{buildAnswer, answerOf};
+ghost use Rattle.tabulate.specs.Inner.PairsLeft.{pairsAfter};
+ghost use Rattle.tabulate.specs.Inner.Walked.{Walked};
 use crate::rounds;
 use crate::table;
 use molecule::fields;
@@ -57,16 +59,11 @@ fn walk(
     parts: &mut [u64],
     p: usize,
     n: usize,
-    arena: &mut [u8],
-    lengths: &mut [usize],
-    desk: &mut [u8],
-    own: &mut [u8],
-    other: &mut [u8],
+    slate: &mut [u8],
 ) -> End
     requires { ⌜ (check (now bytes) ≡ accepted) × (now at ≡ bondsAtWords (now bytes)) × (now touch ≡ touchingWords (now bytes))
-        × (n ≡ bonds (now bytes)) × (n ≤ p) × (p ≤ 4294967295) × (12 * p ≤ length (now parts))
-        × Slots (now arena) (now lengths) × (384 ≤ length (now desk)) × (389 ≤ length (now own)) × (389 ≤ length (now other)) ⌝ }
-    ensures { λ r. ⌜ Ended (now (bytes .entry)) (now (parts .exit)) p (r .over) (r .nodes) (r .matches) ⌝ }
+        × (n ≡ bonds (now bytes)) × (n ≤ p) × (p ≤ 4294967295) × (12 * p ≤ length (now parts)) × Slate (now slate) ⌝ }
+    ensures { λ r. ⌜ Walked (now (bytes .entry)) (now (parts .exit)) p (r .over) (r .nodes) (r .matches) ⌝ }
 {
     rounds::start(parts, p, n);
     let mut from = 0;
@@ -74,20 +71,7 @@ fn walk(
     let mut size: u64 = 2;
     let mut total: u64 = 0;
     while from < to {
-        let done = rounds::size(
-            bytes,
-            at,
-            touch,
-            parts,
-            p,
-            from,
-            to,
-            arena,
-            lengths,
-            desk,
-            own,
-            other,
-        );
+        let done = rounds::size(bytes, at, touch, parts, p, from, to, slate);
         let nodes = done.nodes;
         if p < nodes {
             return End {
@@ -108,31 +92,15 @@ fn walk(
     }
 }
 
-// The same, with room for labels.
+// The same, with a slate for labels.
 fn grow(bytes: &[u8], parts: &mut [u64], p: usize, n: usize) -> End
     requires { ⌜ (check (now bytes) ≡ accepted) × (n ≡ bonds (now bytes)) × (n ≤ p) × (p ≤ 4294967295) × (12 * p ≤ length (now parts)) ⌝ }
-    ensures { λ r. ⌜ Ended (now (bytes .entry)) (now (parts .exit)) p (r .over) (r .nodes) (r .matches) ⌝ }
+    ensures { λ r. ⌜ Walked (now (bytes .entry)) (now (parts .exit)) p (r .over) (r .nodes) (r .matches) ⌝ }
 {
     let at = graph::bonds_at(bytes);
     let touch = graph::touching_from(bytes, &at);
-    let mut arena = [0u8; 24576];
-    let mut lengths = [0usize; 64];
-    let mut desk = [0u8; 384];
-    let mut own = [0u8; 389];
-    let mut other = [0u8; 389];
-    walk(
-        bytes,
-        &at,
-        &touch,
-        parts,
-        p,
-        n,
-        &mut arena,
-        &mut lengths,
-        &mut desk,
-        &mut own,
-        &mut other,
-    )
+    let mut slate = canonize::slate::blank();
+    walk(bytes, &at, &touch, parts, p, n, &mut slate)
 }
 
 // The matches of an accepted record go to the front of pairs.

@@ -8,7 +8,8 @@ use crate::build::Built;
 use molecule::Fault;
 use molecule::Verdict;
 
-// What count answers: the matches there are; why the record is turned back; the size at which parts has no room; or the matches there are where pairs has no room for them.
+// What count answers: the matches there are; why the record is turned back; the size at which parts has no room; or the matches there are where
+// pairs has no room for them.
 pub enum Counted {
     Count(u64),
     Record(Fault),

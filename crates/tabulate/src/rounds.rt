@@ -1,4 +1,4 @@
-// The table size by size: the single bonds, and one size more. Regions of p words of parts as in specs/Found.antt and specs/Grouped.antt of `enumerate` and specs/Noded.antt.
+// The table size by size: the single bonds, and one size more. Regions of p words of parts as in specs/Inner of `enumerate` and specs/Inner/Noded.antt.
 ghost use mathlib.Core.Path.{_≡_};
 ghost use Prim.Native.Nat.{ℕ, _*_, _≤_, _<_};
 ghost use lib.ListN.{length};
@@ -6,8 +6,8 @@ ghost use Rattle.molecule.specs.Lists.{Bytes};
 ghost use Rattle.molecule.specs.Record.{bonds};
 ghost use Rattle.molecule.specs.Touch.{bondsAtWords, touchingWords};
 ghost use Rattle.molecule.specs.Check.{check, accepted};
-ghost use Rattle.canonize.specs.Buffers.{Slots};
-ghost use Rattle.tabulate.specs.Sized.{Held, Sizing, Sized};
+ghost use Rattle.canonize.specs.Inner.Slate.{Slate};
+ghost use Rattle.tabulate.specs.Inner.Stage.{Stage, Sizing, NextSize};
 use crate::nodes;
 use crate::nodes::Done;
 use enumerate::found;
@@ -16,7 +16,7 @@ use enumerate::groups;
 // The n single bonds are the nodes, each alone in its group.
 pub fn start(parts: &mut [u64], p: usize, n: usize)
     requires { ⌜ (0 < p) × (n ≤ p) × (n ≤ 64) × (12 * p ≤ length (now parts)) × (p ≤ 4294967295) ⌝ }
-    ensures { λ _. ⌜ ((r : Bytes) → bonds r ≡ n → Held r (now (parts .exit)) p 0) ⌝ }
+    ensures { λ _. ⌜ ((r : Bytes) → bonds r ≡ n → Stage r (now (parts .exit)) p 0) ⌝ }
 {
     let mut i = 0;
     while i < n {
@@ -26,7 +26,8 @@ pub fn start(parts: &mut [u64], p: usize, n: usize)
     }
 }
 
-// One size more, with the nodes from .. to as parents. The answer is how many nodes there are then, more than p where there is no room, and how many matches it adds.
+// One size more, with the nodes from .. to as parents. The answer is how many nodes there are then, more than p where there is no room, and how many
+// matches it adds.
 pub fn size(
     bytes: &[u8],
     at: &[u64; 65],
@@ -35,17 +36,13 @@ pub fn size(
     p: usize,
     from: usize,
     to: usize,
-    arena: &mut [u8],
-    lengths: &mut [usize],
-    desk: &mut [u8],
-    own: &mut [u8],
-    other: &mut [u8],
+    slate: &mut [u8],
 ) -> Done
     requires { ⌜ (check (now bytes) ≡ accepted) × (now at ≡ bondsAtWords (now bytes)) × (now touch ≡ touchingWords (now bytes))
-        × ((k : ℕ) × Sizing (now bytes) (now parts) p k from to)
-        × Slots (now arena) (now lengths) × (384 ≤ length (now desk)) × (389 ≤ length (now own)) × (389 ≤ length (now other)) ⌝ }
-    ensures sized { λ r. ⌜ ((k : ℕ) → Sizing (now (bytes .entry)) (now (parts .entry)) p k from to → Sized (now (bytes .entry)) (now (parts .exit)) p k (r .nodes) (r .matches)) ⌝ }
-    ensures slots { λ r. ⌜ Slots (now (arena .exit)) (now (lengths .exit)) ⌝ }
+        × ((k : ℕ) × Sizing (now bytes) (now parts) p k from to) × Slate (now slate) ⌝ }
+    ensures next { λ r. ⌜ ((k : ℕ) → Sizing (now (bytes .entry)) (now (parts .entry)) p k from to
+        → NextSize (now (bytes .entry)) (now (parts .exit)) p k (r .nodes) (r .matches)) ⌝ }
+    ensures serves { λ r. ⌜ Slate (now (slate .exit)) ⌝ }
 {
     let count = found::candidates(touch, parts, p, from, to);
     if p < count {
@@ -54,7 +51,7 @@ pub fn size(
             matches: 0,
         };
     }
-    nodes::clear(parts, p, count);
-    let groups = groups::group(bytes, at, parts, p, count, arena, lengths, desk, own, other);
+    clear::zero_part(parts, 7 * p, 7 * p + count);
+    let groups = groups::group(bytes, at, parts, p, count, slate);
     nodes::pair_groups(parts, p, groups, to)
 }

@@ -4,8 +4,8 @@ ghost use mathlib.Core.List.{_++_};
 ghost use Prim.Native.Nat.{_+_, _*_, _≤_, _<_};
 ghost use lib.ListN.{length, drop};
 ghost use lib.Seq.{sets};
-ghost use Rattle.matches.specs.Descending.{withEach};
-ghost use Rattle.matches.specs.Written.{fourWords, wordsOf, startIn, belowIn, matchesIn, StartsBefore};
+ghost use Rattle.matches.specs.Inner.Descending.{withEach};
+ghost use Rattle.matches.specs.Inner.Written.{fourWords, wordsOf, startIn, belowIn, matchesIn, StartsBefore};
 
 // Puts the match of sets a and b at place m: both sets, their union and their size.
 fn put(pairs: &mut [u64], m: usize, a: u64, b: u64)
@@ -42,7 +42,8 @@ fn write_node(parts: &[u64], p: usize, x: usize, pairs: &mut [u64], m: usize) ->
 
 // All matches of so many nodes. The answer is how many there are.
 pub fn write(parts: &[u64], p: usize, count: usize, pairs: &mut [u64]) -> usize
-    requires { ⌜ (count ≤ p) × (9 * p ≤ length (now parts)) × StartsBefore (now parts) p count × (4 * length (matchesIn (now parts) p count) ≤ length (now pairs)) ⌝ }
+    requires { ⌜ (count ≤ p) × (9 * p ≤ length (now parts)) × StartsBefore (now parts) p count
+        × (4 * length (matchesIn (now parts) p count) ≤ length (now pairs)) ⌝ }
     ensures count { λ r. ⌜ r ≡ length (matchesIn (now (parts .entry)) p count) ⌝ }
     ensures holds { λ r. ⌜ now (pairs .exit) ≡ wordsOf (now (parts .entry)) (matchesIn (now (parts .entry)) p count) ++ drop (4 * r) (now (pairs .entry)) ⌝ }
 {

@@ -1,11 +1,9 @@
 -- `bounds::ceil_log2` meets its contract. Assumes nothing.
 use borrow.Author.Needs.{needs}
-use mathlib.Core.Path.{_≡_, sym, ap}
+use mathlib.Core.Path.{sym}
 use native.Mathlib.Omega.{arith}
 use lib.Count.{leading-le}
-use Rattle.molecule.specs.Lists.{firstFrom}
-use Rattle.bounds.specs.Numbers.{ceilLog2}
-use Rattle.bounds.proofs.Numbers.{log-digits}
+use Rattle.bounds.proofs.Numbers.{log-one, log-digits}
 use Rattle.bounds.proofs.ceil_log2.Statement.{statement}
 use Rattle.bounds.proofs.ceil_log2.Tie as tie
 
@@ -16,8 +14,7 @@ sub-result-2 : tie.Need-sub-result-2
 sub-result-2 c = leading-le 32 _
 
 returns : tie.Need-returns
-unfolding ceilLog2 firstFrom
-returns c = let e : c .before .args .t ≡ 0 = omega arith in sym (ap ceilLog2 e)
+returns c = sym (log-one (c .before .args .t) (omega arith))
 
 returns-2 : tie.Need-returns-2
 returns-2 c = log-digits (c .before .args .t) (omega arith) (omega arith)

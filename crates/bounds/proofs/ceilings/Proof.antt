@@ -43,7 +43,9 @@ loop-again c =
     summing-next (λ (s : ℕ). ceilDiv s (a .t)) (a .sizes .now) (c .before .before .before .loop .i) (c .before .before .before .loop .sum) (c .ceil-div .result) (c .before .before .before .loop .inv) (c .before .before .loop-test .taken) (c .ceil-div .ensures)
 
 returns : tie.Need-returns Inv-loop μ-loop
-returns c = summing-done (λ (s : ℕ). ceilDiv s (c .before .before .before .args .t)) (c .before .before .before .args .sizes .now) (c .before .loop .i) (c .before .loop .sum) (c .before .loop .inv) (omega arith)
+returns c =
+    let a = c .before .before .before .args in
+    summing-done (λ (s : ℕ). ceilDiv s (a .t)) (a .sizes .now) (c .before .loop .i) (c .before .loop .sum) (c .before .loop .inv) (omega arith)
 
 pub ceilings-spec : {M : Type 1} → statement M
 ceilings-spec = tie.close (tie.spec Inv-loop μ-loop loop-holds mul-ceil-div shared-slice-read-ceil-div ceil-div-requires add-sum add-i loop-less loop-again returns)

@@ -45,13 +45,17 @@ loop-less : tie.Need-loop-less Inv-loop μ-loop
 loop-less c = omega arith
 
 loop-again : tie.Need-loop-again Inv-loop μ-loop
-loop-again c = (omega arith, omega arith, λ pieces e. reached-same pieces (c .before .before .before .before .before .before .before .before .before .args .largest) (c .before .before .before .before .before .before .loop .t) (c .before .before .before .before .before .before .loop .best) (c .before .less2 .result) (c .before .before .before .before .before .before .loop .inv .2 pieces e) (omega (arith, c .before .before .before .before .before .loop-test .taken)) (term (c .before) pieces e) (omega (arith, c .if1 .taken)))
+loop-again c =
+    let l = c .before .before .before .before .before .before .loop in
+    (omega arith, omega arith, λ pieces e. reached-same pieces (c .before .before .before .before .before .before .before .before .before .args .largest) (l .t) (l .best) (c .before .less2 .result) (l .inv .2 pieces e) (omega (arith, c .before .before .before .before .before .loop-test .taken)) (term (c .before) pieces e) (omega (arith, c .if1 .taken)))
 
 loop-less-2 : tie.Need-loop-less-2 Inv-loop μ-loop
 loop-less-2 c = omega arith
 
 loop-again-2 : tie.Need-loop-again-2 Inv-loop μ-loop
-loop-again-2 c = (omega arith, omega arith, λ pieces e. reached-more pieces (c .before .before .before .before .before .before .before .before .before .args .largest) (c .before .before .before .before .before .before .loop .t) (c .before .before .before .before .before .before .loop .best) (c .before .less2 .result) (c .before .before .before .before .before .before .loop .inv .2 pieces e) (omega (arith, c .before .before .before .before .before .loop-test .taken)) (term (c .before) pieces e) (omega arith))
+loop-again-2 c =
+    let l = c .before .before .before .before .before .before .loop in
+    (omega arith, omega arith, λ pieces e. reached-more pieces (c .before .before .before .before .before .before .before .before .before .args .largest) (l .t) (l .best) (c .before .less2 .result) (l .inv .2 pieces e) (omega (arith, c .before .before .before .before .before .loop-test .taken)) (term (c .before) pieces e) (omega arith))
 
 returns : tie.Need-returns Inv-loop μ-loop
 returns c = λ pieces e. reached-done pieces (c .before .before .before .before .args .largest) (c .before .loop .t) (c .before .loop .best) (c .before .loop .inv .2 pieces e) (omega arith)

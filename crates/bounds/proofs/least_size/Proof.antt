@@ -28,7 +28,10 @@ shared-slice-read-usable-edges-bound-2 : tie.Need-shared-slice-read-usable-edges
 shared-slice-read-usable-edges-bound-2 c = omega arith
 
 usable-edges-bound-requires : tie.Need-usable-edges-bound-requires Inv-loop μ-loop
-usable-edges-bound-requires c κs = (c .before .before .before .loop .inv .0, c .before .before .before .before .before .before .pre .1, c .before .before .before .before .before .before .pre .4 (c .before .before .before .loop .k) (c .before .before .before .loop .inv .0) (omega (arith, c .before .before .loop-test .taken)))
+usable-edges-bound-requires c κs =
+    let l = c .before .before .before .loop in
+    let p = c .before .before .before .before .before .before .pre in
+    (l .inv .0, p .1, p .4 (l .k) (l .inv .0) (omega (arith, c .before .before .loop-test .taken)))
 
 add-if1 : tie.Need-add-if1 Inv-loop μ-loop
 add-if1 c =

@@ -4,12 +4,12 @@ use Prim.Native.Nat.{_-_}
 use native.Mathlib.Omega.{arith}
 use lib.ListN.{length}
 use Rattle.molecule.proofs.Lists.{front-length}
-use Rattle.bounds.proofs.Counting.{Sized, sized-start, sized-next, sized-done}
+use Rattle.bounds.proofs.Counting.{SizesPut, sized-start, sized-next, sized-done}
 use Rattle.bounds.proofs.sizes.Statement.{statement}
 use Rattle.bounds.proofs.sizes.Tie as tie
 
 abbrev Inv-loop : tie.InvT-loop
-Inv-loop pieces r₀ i₀ r i = Sized pieces r₀ r i
+Inv-loop pieces r₀ i₀ r i = SizesPut pieces r₀ r i
 
 abbrev μ-loop : tie.MeasureT-loop
 μ-loop pieces r₀ i₀ r i = length pieces - i
@@ -39,7 +39,9 @@ loop-less : tie.Need-loop-less Inv-loop μ-loop
 loop-less c = omega arith
 
 loop-again : tie.Need-loop-again Inv-loop μ-loop
-loop-again c = sized-next (c .before .before .before .before .before .args .pieces .now) _ (c .before .before .before .loop .r) (c .before .before .before .loop .i) (c .size .result) (c .before .before .before .loop .inv) (c .before .before .loop-test .taken) (c .before .before .before .before .before .pre) (c .size .ensures)
+loop-again c =
+    let l = c .before .before .before .loop in
+    sized-next (c .before .before .before .before .before .args .pieces .now) _ (l .r) (l .i) (c .size .result) (l .inv) (c .before .before .loop-test .taken) (c .before .before .before .before .before .pre) (c .size .ensures)
 
 returns : tie.Need-returns Inv-loop μ-loop
 returns c = (front-length (c .before .loop .inv .1) (omega (arith, c .before .before .before .pre)), sized-done (c .before .before .before .args .pieces .now) _ (c .before .loop .r) (c .before .loop .i) (c .before .loop .inv) (omega arith))

@@ -10,7 +10,7 @@ use Rattle.bitset.specs.Bits.{size}
 use Rattle.molecule.specs.Lists.{Bytes}
 use Rattle.matches.specs.Table.{Pair}
 use Rattle.matches.specs.Laws.{Laws}
-use Rattle.state.specs.Scan.{Scanning, goes}
+use Rattle.state.specs.Inner.Scan.{Scanning, goes}
 use Rattle.branch.proofs.Branching.{too-large}
 use Rattle.branch.proofs.first_fitting.Statement.{statement}
 use Rattle.branch.proofs.first_fitting.Tie as tie

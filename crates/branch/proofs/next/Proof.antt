@@ -8,8 +8,8 @@ use lib.ListN.{length}
 use Rattle.molecule.specs.Lists.{Bytes}
 use Rattle.matches.specs.Table.{Pair}
 use Rattle.matches.specs.Laws.{Laws}
-use Rattle.state.specs.Scan.{Scanning}
-use Rattle.branch.specs.Branching.{triedFrom}
+use Rattle.state.specs.Inner.Scan.{Scanning}
+use Rattle.branch.specs.Inner.Branching.{triedFrom}
 use Rattle.branch.proofs.Branching.{next-skip, next-small, next-end, end-turn}
 use Rattle.branch.proofs.next.Statement.{statement}
 use Rattle.branch.proofs.next.Tie as tie

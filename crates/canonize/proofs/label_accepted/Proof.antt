@@ -1,12 +1,12 @@
 -- `canonize::label_accepted` meets its contract. Assumes nothing.
 use borrow.Author.Needs.{needs}
 use borrow.Author.Tests.{not-true, not-false}
-use mathlib.Core.Path.{_≡_, refl, sym, _∙_}
+use mathlib.Core.Path.{_≡_, sym, _∙_}
 use mathlib.Core.Bool.{false}
 use native.Mathlib.Omega.{arith}
 use Rattle.molecule.proofs.Accepted.{accepted-formed}
 use Rattle.canonize.specs.Answer.{badSet}
-use Rattle.canonize.proofs.Answers.{answer-refused, answer-label, set-row, buffer-row, no-row, good-set, slots-fresh}
+use Rattle.canonize.proofs.Answers.{answer-refused, answer-label, set-row, buffer-row, no-row, good-set}
 use Rattle.canonize.proofs.label_accepted.Statement.{statement}
 use Rattle.canonize.proofs.label_accepted.Tie as tie
 
@@ -19,39 +19,49 @@ is-fragment-requires c κs = search needs
 returns : tie.Need-returns
 returns c =
     let a = c .before .before .before .before .before .before .args in
-    answer-refused (a .bytes .now) (a .set) (a .out .now) 13 0 (set-row (a .bytes .now) (a .set) (a .out .now) (c .before .before .before .before .before .before .pre) (not-false _ (sym (c .before .is-fragment .ensures) ∙ not-true _ (c .if1 .taken))))
+    let b = not-false _ (sym (c .before .is-fragment .ensures) ∙ not-true _ (c .if1 .taken)) in
+    answer-refused (a .bytes .now) (a .set) (a .out .now) 13 0
+    (set-row (a .bytes .now) (a .set) (a .out .now) (c .before .before .before .before .before .before .pre) b)
 
 -- row 13 is passed
-good : (c : tie.Else1) → badSet (c .before .before .before .before .before .before .args .bytes .now) (c .before .before .before .before .before .before .args .set) ≡ false
+abbrev to-start : tie.Else1 → tie.Start
+to-start c = c .before .before .before .before .before .before
+
+-- row 13 is passed
+good : (c : tie.Else1) → badSet (to-start c .args .bytes .now) (to-start c .args .set) ≡ false
 good c = not-true _ (sym (c .before .is-fragment .ensures) ∙ not-false _ (c .if1 .left))
 
 returns-2 : tie.Need-returns-2
 returns-2 c =
     let a = c .before .before .before .before .before .before .before .args in
-    answer-refused (a .bytes .now) (a .set) (a .out .now) 14 0 (buffer-row (a .bytes .now) (a .set) (a .out .now) (c .before .before .before .before .before .before .before .pre) (good (c .before)) (c .if2 .taken))
+    let p = c .before .before .before .before .before .before .before .pre in
+    answer-refused (a .bytes .now) (a .set) (a .out .now) 14 0 (buffer-row (a .bytes .now) (a .set) (a .out .now) p (good (c .before)) (c .if2 .taken))
 
-slice-aggregate-label-into : tie.Need-slice-aggregate-label-into
-slice-aggregate-label-into c = search needs
+blank-requires : tie.Need-blank-requires
+blank-requires c κs = search needs
 
-slice-aggregate-label-into-2 : tie.Need-slice-aggregate-label-into-2
-slice-aggregate-label-into-2 c = search needs
+slice-aggregate-label-out : tie.Need-slice-aggregate-label-out
+slice-aggregate-label-out c = search needs
 
-slice-aggregate-label-into-3 : tie.Need-slice-aggregate-label-into-3
-slice-aggregate-label-into-3 c = search needs
-
-label-into-requires : tie.Need-label-into-requires
-label-into-requires c κs =
-    let a = c .before .before .before .before .before .before .before .before .before .before .before .before .args in
-    let g = good-set (a .bytes .now) (a .set) (a .out .now) (c .before .before .before .before .before .before .before .before .before .before .before .before .pre) (good (c .before .before .before .before .before .before)) in
-    (c .before .before .before .before .before .before .before .before .before .before .before .before .pre, c .before .before .before .before .before .before .before .before .before .bonds-at .ensures, g .0, g .1, slots-fresh _ _ refl refl, search needs, omega (arith, c .before .before .before .before .before .if2 .left))
+label-out-requires : tie.Need-label-out-requires
+label-out-requires c κs =
+    let s : tie.Start = to-start (c .before .before .before .before .before) in
+    let g = good-set (s .args .bytes .now) (s .args .set) (s .args .out .now) (s .pre) (good (c .before .before .before .before .before)) in (
+      record { formed = s .pre; touch = c .before .before .before .before .before .before .before .before .bonds-at .ensures; own = g .0; connected = g .1 },
+      c .before .before .before .blank .ensures,
+      omega (arith, c .before .before .before .before .if2 .left),
+    )
 
 same-length : tie.Need-same-length
 same-length c = search needs
 
 returns-3 : tie.Need-returns-3
 returns-3 c =
-    let a = c .before .before .before .before .before .before .before .before .before .before .before .before .before .before .before .before .before .before .args in
-    answer-label (a .bytes .now) (a .set) (a .out .now) (no-row (a .bytes .now) (a .set) (a .out .now) (c .before .before .before .before .before .before .before .before .before .before .before .before .before .before .before .before .before .before .pre) (good (c .before .before .before .before .before .before .before .before .before .before .before .before)) (omega (arith, c .before .before .before .before .before .before .before .before .before .before .before .if2 .left))) _ _ (c .before .before .before .before .before .label-into .ensures .0)
+    let d = c .before .before .before .before .before .before .before .before .before in
+    let a = to-start d .args in
+    let n = no-row (a .bytes .now) (a .set) (a .out .now) (to-start d .pre) (good d)
+    (omega (arith, c .before .before .before .before .before .before .before .before .if2 .left)) in
+    answer-label (a .bytes .now) (a .set) (a .out .now) n _ _ (c .before .before .before .label-out .ensures)
 
 pub label-accepted-spec : {M : Type 1} → statement M
 label-accepted-spec =
@@ -61,9 +71,8 @@ label-accepted-spec =
     is-fragment-requires
     returns
     returns-2
-    slice-aggregate-label-into
-    slice-aggregate-label-into-2
-    slice-aggregate-label-into-3
-    label-into-requires
+    blank-requires
+    slice-aggregate-label-out
+    label-out-requires
     same-length
     returns-3)

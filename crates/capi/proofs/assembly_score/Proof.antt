@@ -1,6 +1,6 @@
 -- `capi::assembly_score` meets its contract: the reply to score's enum. Assumes nothing.
 use borrow.Author.Needs.{needs}
-use Rattle.assembly.specs.Answer.{roomOf}
+use Rattle.assembly.specs.Answer.{loan, roomOf}
 use Rattle.capi.specs.Reply.{asked}
 use Rattle.capi.proofs.Replying.{replies, demand-told}
 use Rattle.capi.proofs.assembly_score.Statement.{statement}
@@ -30,12 +30,15 @@ same-length-5 c = search needs
 returns : tie.Need-returns
 returns c =
     let a = c .before .before .before .before .before .before .before .before .before .before .before .before .before .before .before .before .before .before .before .before .before .before .before .args in
-    let w = c .before .before .before .before .before .before .before .before .before .before .before .score .ensures in
-    let x = c .before .before .before .before .before .before .before .before .before .before .before .score .result in
-    let room = roomOf (a .trail .now) (a .parts .now) (a .pairs .now) (a .entries .now) (a .desk .now) in
-    let p = replies (a .bytes .now) (asked (a .bounds) (a .memo) (a .budget)) room _ x (w .0) (c .before .before .before .before .before .before .before .before .before .before .before .score .kept .1 .1 .0) in
-    let d = demand-told (a .bytes .now) (asked (a .bounds) (a .memo) (a .budget)) room _ x (w .1 .1 .1 .1 .1 .1) in
-    (rw (c .replied .ensures) p, (w .1 .0, (w .1 .1 .0, (w .1 .1 .1 .0, (w .1 .1 .1 .1 .0, (w .1 .1 .1 .1 .1 .0, rw (c .replied .ensures) d))))))
+    let s = c .before .before .before .before .before .before .before .before .before .before .before .score in
+    let w = s .ensures in
+    let setting = asked (a .bounds) (a .memo) (a .budget) in
+    let room = roomOf (loan (a .trail .now) (a .parts .now) (a .pairs .now) (a .entries .now) (a .desk .now)) in
+    rw (c .replied .ensures) (record {
+      answer = replies (a .bytes .now) setting room _ (s .result) (w .answer) (s .kept .1 .1 .0);
+      leaves = w .leaves;
+      demand3 = demand-told (a .bytes .now) setting room _ (s .result) (w .demand3);
+    })
 
 pub assembly-score-spec : {M : Type 1} → statement M
 assembly-score-spec =

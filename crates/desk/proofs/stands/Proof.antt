@@ -6,6 +6,10 @@ use Rattle.desk.proofs.Caching.{cached-hash, cached-stands, cached-put}
 use Rattle.desk.proofs.stands.Statement.{statement}
 use Rattle.desk.proofs.stands.Tie as tie
 
+-- where the slot of x is known
+abbrev slot-of : tie.After-learn → tie.After-slot
+slot-of c = c .before .before .before .before .before
+
 slot-requires : tie.Need-slot-requires
 slot-requires c κs = search needs
 
@@ -18,6 +22,15 @@ mul-if1 c = search needs
 slice-read-if1 : tie.Need-slice-read-if1
 slice-read-if1 c = search needs
 
+add-t12 : tie.Need-add-t12
+add-t12 c = search needs
+
+mul-t13 : tie.Need-mul-t13
+mul-t13 c = search needs
+
+slice-read-t15 : tie.Need-slice-read-t15
+slice-read-t15 c = search needs
+
 add-t16 : tie.Need-add-t16
 add-t16 c = search needs
 
@@ -27,21 +40,15 @@ mul-t17 c = search needs
 slice-read-t19 : tie.Need-slice-read-t19
 slice-read-t19 c = search needs
 
-add-t20 : tie.Need-add-t20
-add-t20 c = search needs
-
-mul-t21 : tie.Need-mul-t21
-mul-t21 c = search needs
-
-slice-read-t23 : tie.Need-slice-read-t23
-slice-read-t23 c = search needs
-
 returns : tie.Need-returns
 returns c =
-    let s = c .before .before .before .before .before .before .before .before .before .before .before .before in
+    let s = c .before .before .before .before .before .before .before .before in
     let l = s .pre .0 in
     let k = c .before .before .before .before .slot in
-    ((cached-hash (s .args .bytes .now) (s .args .desk .now) (l .cached) (k .result) (k .ensures) (s .args .x) (s .pre .3) (c .before .before .if1 .taken), cached-stands (s .args .bytes .now) (s .args .desk .now) (l .cached) (k .result) (k .ensures) (s .args .x) (s .pre .3) (c .before .before .if1 .taken)), (l .cached, l .slots))
+    let e = c .before .before .if1 .taken in
+    let known = cached-hash (l .cached) (k .result) (k .ensures) (s .args .x) (s .pre .2) e in
+    let stood = cached-stands (l .cached) (k .result) (k .ensures) (s .args .x) (s .pre .2) e in
+    ((known, stood), (l .cached, l .slate))
 
 learn-requires : tie.Need-learn-requires
 learn-requires c κs = search needs
@@ -59,7 +66,7 @@ mul-desk-2 : tie.Need-mul-desk-2
 mul-desk-2 c = search needs
 
 slice-write-desk-2 : tie.Need-slice-write-desk-2
-slice-write-desk-2 c = simp length-set (omega (arith, c .before .before .before .before .before .before .before .before .before .before .before .before .learn .ensures .1 .0 .wide, c .before .before .before .before .before .before .before .before .before .before .before .before .before .before .before .before .before .before .before .before .before .slot .ensures))
+slice-write-desk-2 c = let k = c .before .before .before .before in simp length-set (omega (arith, slot-of k .slot .ensures, k .learn .ensures .1 .0 .wide))
 
 add-desk-2 : tie.Need-add-desk-2
 add-desk-2 c = search needs
@@ -68,7 +75,7 @@ mul-desk-3 : tie.Need-mul-desk-3
 mul-desk-3 c = search needs
 
 slice-write-desk-3 : tie.Need-slice-write-desk-3
-slice-write-desk-3 c = simp length-set (omega (arith, c .before .before .before .before .before .before .before .before .before .before .before .before .learn .ensures .1 .0 .wide, c .before .before .before .before .before .before .before .before .before .before .before .before .before .before .before .before .before .before .before .before .before .slot .ensures))
+slice-write-desk-3 c = let k = c .before .before .before .before in simp length-set (omega (arith, slot-of k .slot .ensures, k .learn .ensures .1 .0 .wide))
 
 same-length : tie.Need-same-length
 same-length c = search needs
@@ -76,23 +83,12 @@ same-length c = search needs
 same-length-2 : tie.Need-same-length-2
 same-length-2 c = search needs
 
-same-length-3 : tie.Need-same-length-3
-same-length-3 c = search needs
-
-same-length-4 : tie.Need-same-length-4
-same-length-4 c = search needs
-
-same-length-5 : tie.Need-same-length-5
-same-length-5 c = search needs
-
-same-length-6 : tie.Need-same-length-6
-same-length-6 c = search needs
-
 returns-2 : tie.Need-returns-2
 returns-2 c =
-    let s = c .before .before .before .before .before .before .before .before .before .before .before .before .before .before .before .before .before .before .before .before .before .before .before .before .before .before .before .before .before in
-    let k = c .before .before .before .before .before .before .before .before .before .before .before .before .learn in
-    (k .ensures .0, (cached-put (s .args .bytes .now) (k .last .1 .1 .1 .0) (k .ensures .1 .0) (c .before .before .before .before .before .before .before .before .before .before .before .before .before .before .before .before .before .before .before .before .before .slot .result) (c .before .before .before .before .before .before .before .before .before .before .before .before .before .before .before .before .before .before .before .before .before .slot .ensures) (s .args .x) (k .result .hash) (k .result .set) (k .ensures .0 .0) (k .ensures .0 .1), k .ensures .1 .1))
+    let k = c .before .before .before .before in
+    let i = slot-of k in
+    let e = k .learn .ensures in
+    (e .0, (cached-put (e .1 .0) (i .slot .result) (i .slot .ensures) (i .before .before .before .before .args .x) (e .0 .0) (e .0 .1), e .1 .1))
 
 pub stands-spec : {M : Type 1} → statement M
 stands-spec =
@@ -102,12 +98,12 @@ stands-spec =
     mul-i
     mul-if1
     slice-read-if1
+    add-t12
+    mul-t13
+    slice-read-t15
     add-t16
     mul-t17
     slice-read-t19
-    add-t20
-    mul-t21
-    slice-read-t23
     returns
     learn-requires
     mul-desk
@@ -120,8 +116,4 @@ stands-spec =
     slice-write-desk-3
     same-length
     same-length-2
-    same-length-3
-    same-length-4
-    same-length-5
-    same-length-6
     returns-2)

@@ -1,10 +1,9 @@
 -- `memoize::copy` meets its contract. Assumes nothing.
-use borrow.Author.Needs.{needs, scaled-fits}
+use borrow.Author.Needs.{needs}
 use mathlib.Core.Path.{_≡_, refl}
-use Prim.Native.Nat.{_+_, _-_, _≤_, _<_}
+use Prim.Native.Nat.{_-_, _≤_}
 use native.Mathlib.Omega.{arith}
-use lib.ListN.{length}
-use Rattle.memoize.specs.Stored.{Filled}
+use Rattle.memoize.specs.Inner.Stored.{Filled}
 use Rattle.memoize.proofs.Filling.{filled-start, filled-next}
 use Rattle.memoize.proofs.copy.Statement.{statement}
 use Rattle.memoize.proofs.copy.Tie as tie
@@ -19,35 +18,35 @@ loop-holds : tie.Need-loop-holds Inv-loop μ-loop
 loop-holds c = (omega arith, filled-start (c .args .memo .now) (c .args .k) (c .args .list .now))
 
 mul-memo : tie.Need-mul-memo Inv-loop μ-loop
-mul-memo c = scaled-fits (c .before .loop .i) (length (c .before .before .args .list .now)) 8 (omega (arith, c .before .before .pre .1, c .loop-test .taken)) (c .before .before .good .1 .1 .0 .1)
+mul-memo c = search needs
 
 shared-slice-read-memo : tie.Need-shared-slice-read-memo Inv-loop μ-loop
-shared-slice-read-memo c = omega (arith, c .before .before .before .pre .0, c .before .before .before .pre .1, c .before .loop-test .taken, c .before .before .loop .inv .1 .long, c .before .before .before .good .0 .0)
+shared-slice-read-memo c = search needs
 
 add-memo : tie.Need-add-memo Inv-loop μ-loop
-add-memo c = omega (arith, c .before .before .before .pre .0, c .before .before .before .pre .1, c .before .loop-test .taken, c .before .before .loop .inv .1 .long, c .before .before .before .good .0 .0)
+add-memo c = search needs
 
 mul-memo-2 : tie.Need-mul-memo-2 Inv-loop μ-loop
-mul-memo-2 c = scaled-fits (c .before .before .before .args .k + c .before .before .loop .i) (length (c .before .before .before .args .memo .now)) 8 (omega (arith, c .before .before .before .pre .0, c .before .loop-test .taken)) (c .before .before .before .good .0 .1)
+mul-memo-2 c = search needs
 
 slice-write-memo : tie.Need-slice-write-memo Inv-loop μ-loop
-slice-write-memo c = omega (arith, c .before .before .before .pre .0, c .before .before .before .pre .1, c .before .loop-test .taken, c .before .before .loop .inv .1 .long, c .before .before .before .good .0 .0)
+slice-write-memo c = search needs
 
 add-i : tie.Need-add-i Inv-loop μ-loop
-add-i c = omega (arith, c .before .before .before .pre .0, c .before .before .before .pre .1, c .before .loop-test .taken, c .before .before .loop .inv .1 .long, c .before .before .before .good .0 .0)
+add-i c = search needs
 
 loop-less : tie.Need-loop-less Inv-loop μ-loop
-loop-less c = omega (arith, c .before .loop-test .taken)
+loop-less c = search needs
 
 loop-again : tie.Need-loop-again Inv-loop μ-loop
-loop-again c = (omega (arith, c .before .loop-test .taken), filled-next (c .before .before .loop .inv .1) (omega (arith, c .before .before .before .pre .0, c .before .loop-test .taken)) _ refl)
+loop-again c = (omega arith, filled-next (c .before .before .loop .inv .1) (omega arith) _ refl)
 
 same-length : tie.Need-same-length Inv-loop μ-loop
 same-length c = c .before .loop .inv .1 .long
 
 returns : tie.Need-returns Inv-loop μ-loop
 returns c =
-    let e : c .before .loop .i ≡ c .before .before .args .n = omega (arith, c .before .loop .inv .0, c .loop-test .left) in
+    let e : c .before .loop .i ≡ c .before .before .args .n = omega arith in
     rw e at (c .before .loop .inv .1)
 
 pub copy-spec : {M : Type 1} → statement M

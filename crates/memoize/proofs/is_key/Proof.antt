@@ -17,8 +17,14 @@ mul-if1-2 c = search needs
 shared-slice-read-if1 : tie.Need-shared-slice-read-if1
 shared-slice-read-if1 c = search needs
 
+shared-slice-read-if1-2 : tie.Need-shared-slice-read-if1-2
+shared-slice-read-if1-2 c = search needs
+
 returns : tie.Need-returns
-returns c = let s = c .before .before .before .before .before .before .before .before .before .before .before in (λ x h. key-total h (s .args .pieces .now) (s .args .total) (s .pre .4) (c .if1 .taken), s .pre .0 .slots)
+returns c = (λ x y h g. key-total h g (c .if1 .taken), c .before .before .before .before .before .before .before .pre .0 .slate)
+
+shared-slice-read-count : tie.Need-shared-slice-read-count
+shared-slice-read-count c = search needs
 
 mul-if2 : tie.Need-mul-if2
 mul-if2 c = search needs
@@ -33,31 +39,21 @@ shared-slice-read-if2 : tie.Need-shared-slice-read-if2
 shared-slice-read-if2 c = search needs
 
 returns-2 : tie.Need-returns-2
-returns-2 c = let s = c .before .before .before .before .before .before .before .before .before .before .before .before .before in (λ x h. key-count h (s .args .pieces .now) (c .if2 .taken), s .pre .0 .slots)
+returns-2 c = (λ x y h g. key-count h g (c .if2 .taken), c .before .before .before .before .before .before .before .before .before .before .pre .0 .slate)
 
 mul-same-pieces : tie.Need-mul-same-pieces
 mul-same-pieces c = search needs
 
 same-pieces-requires : tie.Need-same-pieces-requires
-same-pieces-requires c κs = let s = c .before .before .before .before .before .before .before .before .before .before .before .before .before .before .before .before .before .before in (s .pre .0, rw (c .before .before .before .before .before .if2 .left) at (s .pre .1 .1 .block), s .pre .2, s .pre .3)
+same-pieces-requires c κs =
+    let p = c .before .before .before .before .before .before .before .before .before .before .before .pre in
+    (p .0, rw (c .before .if2 .left) at (p .1 .1 .block), p .2 .1 .block)
 
 same-length : tie.Need-same-length
 same-length c = search needs
 
-same-length-2 : tie.Need-same-length-2
-same-length-2 c = search needs
-
-same-length-3 : tie.Need-same-length-3
-same-length-3 c = search needs
-
-same-length-4 : tie.Need-same-length-4
-same-length-4 c = search needs
-
-same-length-5 : tie.Need-same-length-5
-same-length-5 c = search needs
-
 returns-3 : tie.Need-returns-3
-returns-3 c = (λ x h. c .before .before .before .before .before .before .before .before .before .before .same-pieces .ensures .0 ∙ key-block h (c .before .before .before .before .before .before .before .before .before .before .before .before .before .before .before .before .before .before .before .before .before .before .before .before .before .before .before .before .before .args .pieces .now) (c .before .before .before .before .before .before .before .before .before .before .before .before .before .before .before .before .if2 .left), c .before .before .before .before .before .before .before .before .before .before .same-pieces .ensures .1)
+returns-3 c = let k = c .before .before .same-pieces in (λ x y h g. k .ensures .0 ∙ key-block h g (c .before .before .before .before .if2 .left), k .ensures .1)
 
 pub is-key-spec : {M : Type 1} → statement M
 is-key-spec =
@@ -67,7 +63,9 @@ is-key-spec =
     add-if1
     mul-if1-2
     shared-slice-read-if1
+    shared-slice-read-if1-2
     returns
+    shared-slice-read-count
     mul-if2
     add-if2
     mul-if2-2
@@ -76,8 +74,4 @@ is-key-spec =
     mul-same-pieces
     same-pieces-requires
     same-length
-    same-length-2
-    same-length-3
-    same-length-4
-    same-length-5
     returns-3)

@@ -5,14 +5,14 @@ use native.Mathlib.Omega.{arith}
 use Rattle.molecule.specs.Lists.{first}
 use Rattle.molecule.specs.Record.{atoms, bonds}
 use Rattle.molecule.specs.Check.{badElement, badCode, badEnds, unreached}
-use Rattle.molecule.specs.Tree.{Sized}
+use Rattle.molecule.specs.Tree.{RightCounts}
 use Rattle.molecule.proofs.RowLaws.{rowAt-hit, rowAt-pass, short, wrong-length, no-bond, many-bonds, wrong-atoms, past-2, past-3, past-4, past-5, formed}
 use borrow.Author.Needs.{needs}
 use Rattle.molecule.proofs.check.Statement.{statement}
 use Rattle.molecule.proofs.check.Tie as tie
 
 -- what the tests before row 3 have shown
-sized : (c : tie.Else5) → Sized (c .before .before .before .before .before .before .before .before .args .bytes .now)
+sized : (c : tie.Else5) → RightCounts (c .before .before .before .before .before .before .before .before .args .bytes .now)
 sized c =
     let a = c .before .before .before .before .before .atoms .ensures .0 in
     let n = c .before .before .before .before .bonds .ensures .0 in

@@ -7,7 +7,7 @@ use native.Mathlib.Numerals.{add-one}
 use lib.ListN.{length, take, set}
 use lib.Seq.{take-at, take-suc-set}
 use Rattle.search.specs.State.{remove}
-use Rattle.state.specs.Views.{stateOf}
+use Rattle.state.specs.Inner.Views.{stateOf}
 use Rattle.state.proofs.Pieces.{child-is}
 use Rattle.state.proofs.child.Statement.{statement}
 use Rattle.state.proofs.child.Tie as tie

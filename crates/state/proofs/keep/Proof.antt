@@ -7,14 +7,14 @@ use native.Mathlib.Omega.{arith}
 use lib.Bits.{bitAnd}
 use lib.ListN.{length, getD}
 use Rattle.bitset.specs.Bits.{size}
-use Rattle.state.specs.Pieces.{big}
+use Rattle.state.specs.Inner.Pieces.{bigParts}
 use Rattle.state.proofs.Pieces.{Written, written-start, written-length, written-room, written-next, written-done, common-size, common-room, keep-is}
 use Rattle.state.proofs.keep.Statement.{statement}
 use Rattle.state.proofs.keep.Tie as tie
 
 -- what is left of a piece
 abbrev left : List ℕ → ℕ → ℕ → List ℕ
-left touch kept p = big touch (bitAnd p kept)
+left touch kept p = bigParts touch (bitAnd p kept)
 
 abbrev Inv-loop : tie.InvT-loop
 Inv-loop touch pieces kept out₀ k₀ i₀ out k i = Written (left touch kept) size 0 pieces out₀ out i k

@@ -13,11 +13,15 @@ use Rattle.state.proofs.push_fallen.Statement.{statement}
 use Rattle.state.proofs.push_fallen.Tie as tie
 
 none-gone : (c : tie.Then1) → bitAnd (c .before .before .before .args .p) (c .before .before .before .args .gone) ≡ 0
-none-gone c = eqb-true (bitAnd (c .before .before .before .args .p) (c .before .before .before .args .gone)) 0 (sym (c .before .is-disjoint .ensures) ∙ c .if1 .taken)
+none-gone c =
+    let a = c .before .before .before .args in
+    eqb-true (bitAnd (a .p) (a .gone)) 0 (sym (c .before .is-disjoint .ensures) ∙ c .if1 .taken)
 
 -- the piece has none of the bonds gone, so the room is for two bonds and more
 fits : (c : tie.Then1) → c .before .before .before .args .k < length (c .before .before .before .args .out .now)
-fits c = omega (arith, c .before .before .before .pre, apart-size (c .before .before .before .args .p) (c .before .before .before .args .gone) (none-gone c) .1)
+fits c =
+    let a = c .before .before .before .args in
+    omega (arith, c .before .before .before .pre, apart-size (a .p) (a .gone) (none-gone c) .1)
 
 is-disjoint-requires : tie.Need-is-disjoint-requires
 is-disjoint-requires c κs = search needs

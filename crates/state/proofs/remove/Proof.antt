@@ -7,7 +7,7 @@ use native.Mathlib.Omega.{arith}
 use lib.ListN.{length, getD, length-set}
 use Rattle.bitset.specs.Bits.{size, diff}
 use Rattle.molecule.proofs.Lists.{front-put, at-mem}
-use Rattle.state.specs.Pieces.{fallen}
+use Rattle.state.specs.Inner.Pieces.{fallen}
 use Rattle.state.proofs.Pieces.{Written, written-start, written-length, written-room, written-next, written-done, fallen-room, remove-is}
 use Rattle.state.proofs.remove.Statement.{statement}
 use Rattle.state.proofs.remove.Tie as tie

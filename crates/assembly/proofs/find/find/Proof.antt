@@ -1,11 +1,13 @@
 -- `assembly::find::find` meets its contract. Assumes nothing.
 use borrow.Author.Needs.{needs}
-use mathlib.Core.Path.{_≡_}
-use Prim.Native.Nat.{_-_, _≤_}
+use mathlib.Core.Path.{_≡_, refl}
+use Prim.Native.Nat.{_-_, _*_, _≤_}
 use native.Mathlib.Omega.{arith}
-use lib.ListN.{length}
+use lib.ListN.{length, take}
+use lib.Seq.{length-take-le}
 use Rattle.molecule.specs.Record.{bonds}
-use Rattle.recurse.specs.Follows.{settingOf}
+use Rattle.matches.specs.Table.{pairs}
+use Rattle.matches.proofs.Laws.{recorded-front}
 use Rattle.assembly.proofs.Scoring.{stored-zeros, cached-zeros, found-short, found-scored, found-eleven, found-twelve}
 use Rattle.assembly.proofs.find.find.Statement.{statement}
 use Rattle.assembly.proofs.find.find.Tie as tie
@@ -16,16 +18,32 @@ zero-requires c κs = search needs
 zero-requires-2 : tie.Need-zero-requires-2
 zero-requires-2 c κs = search needs
 
+mul-words : tie.Need-mul-words
+mul-words c = search needs
+
+sub-run : tie.Need-sub-run
+sub-run c = search needs
+
+part-run-start : tie.Need-part-run-start
+part-run-start c = search needs
+
+part-run-end : tie.Need-part-run-end
+part-run-end c = search needs
+
 run-requires : tie.Need-run-requires
 run-requires c κs =
-    let s = c .before .before .before .before .before .before .before .before .before .before .before .before .before .before .before in
-    (s .pre .0, s .pre .1, s .pre .2, s .pre .3, s .pre .4, stored-zeros _ _ (length (s .args .memo .now)) (c .before .before .before .before .before .before .before .before .zero .ensures), cached-zeros _ _ (length (s .args .desk .now)) (c .before .before .before .before .zero2 .ensures) (s .pre .6))
+    let s = c .before .before .before .before .before .before .before .before .before .before .before .before .before .before .before .before in
+    let a = s .args in
+    let n = 4 * a .matches - 0 in
+    let w : length (take n (a .pairs .now)) ≡ n = length-take-le n (a .pairs .now) (omega (arith, s .pre .3)) in
+    (s .pre .0, recorded-front (a .pairs .now) (pairs (a .bytes .now)) n (omega (arith, s .pre .2)) (s .pre .1), omega (arith, w, s .pre .2), omega (arith, s .pre .2, s .pre .4), stored-zeros _ _ (length (a .memo .now)) (c .before .before .before .before .before .before .before .before .before .zero .ensures), cached-zeros _ _ (length (a .desk .now)) (c .before .before .before .before .before .zero2 .ensures) (s .pre .6))
 
 -- at most 32 removals are written
 short : (c : tie.Then1) → c .before .before .before .before .before .run .result .length ≤ 32
 short c =
-    let s = c .before .before .before .before .before .before .before .before .before .before .before .before .before .before .before .before .before .before .before .before .before in
-    found-short (s .args .bytes .now) (s .pre .0) (settingOf (s .args .setting)) (bonds (s .args .bytes .now) - 1) (c .before .before .before .before .before .run .result) _ _ (length (s .args .memo .now)) (c .before .before .before .before .before .before .before .before .before .before .before .before .before .before .zero .kept .0) (c .before .before .before .before .before .run .ensures) (c .if1 .taken)
+    let s = c .before .before .before .before .before .before .before .before .before .before .before .before .before .before .before .before .before .before .before .before .before .before in
+    let o = c .before .before .before .before .before .run in
+    found-short (s .args .bytes .now) (s .pre .0) (s .args .setting) (bonds (s .args .bytes .now) - 1) (o .result) _ (s .args .memo .now) _ (c .before .before .before .before .before .before .before .before .before .before .before .before .before .before .before .zero .kept .0) (o .ensures) (c .if1 .taken)
 
 slice-aggregate-write : tie.Need-slice-aggregate-write
 slice-aggregate-write c = search needs
@@ -34,10 +52,10 @@ write-requires : tie.Need-write-requires
 write-requires c κs =
     let h : length (c .before .before .before .before .before .before .before .before .run .result .trail) ≡ 32 = search needs in
     let g : c .before .before .before .before .before .before .before .before .run .result .length ≤ 32 = short (c .before .before .before) in
-    (g, omega arith, c .before .before .before .before .before .before .before .before .before .before .before .before .before .before .before .before .before .before .before .before .before .before .before .before .pre .5)
+    (g, omega arith, c .before .before .before .before .before .before .before .before .before .before .before .before .before .before .before .before .before .before .before .before .before .before .before .before .before .pre .5)
 
-cast-t28 : tie.Need-cast-t28
-cast-t28 c = omega (arith, short (c .before .before .before .before .before .before))
+cast-t33 : tie.Need-cast-t33
+cast-t33 c = omega (arith, short (c .before .before .before .before .before .before .before))
 
 same-length : tie.Need-same-length
 same-length c = search needs
@@ -50,10 +68,10 @@ same-length-3 c = search needs
 
 returns : tie.Need-returns
 returns c =
-    let s = c .before .before .before .before .before .before .before .before .before .before .before .before .before .before .before .before .before .before .before .before .before .before .before .before .before .before .before in
-    let o = c .before .before .before .before .before .before .before .before .before .before .before .run in
+    let s = c .before .before .before .before .before .before .before .before .before .before .before .before .before .before .before .before .before .before .before .before .before .before .before .before .before .before .before .before .before in
+    let o = c .before .before .before .before .before .before .before .before .before .before .before .before .run in
     let h : length (o .result .trail) ≡ 32 = search needs in
-    found-scored (s .args .bytes .now) (s .pre .0) (settingOf (s .args .setting)) (bonds (s .args .bytes .now) - 1) (o .result) _ _ (length (s .args .memo .now)) (c .before .before .before .before .before .before .before .before .before .before .before .before .before .before .before .before .before .before .before .before .zero .kept .0) (o .ensures) (c .before .before .before .before .before .before .if1 .taken) h (s .args .matches) (s .pre .2) (s .args .trail .now) _ (c .before .before .write .ensures)
+    found-scored (s .args .bytes .now) (s .pre .0) (s .args .setting) (bonds (s .args .bytes .now) - 1) (o .result) _ (s .args .memo .now) _ (c .before .before .before .before .before .before .before .before .before .before .before .before .before .before .before .before .before .before .before .before .before .before .zero .kept .0) (o .ensures) (c .before .before .before .before .before .before .before .if1 .taken) h _ refl (s .pre .2) refl refl (s .args .trail .now) _ (c .before .before .before .write .ensures)
 
 same-length-4 : tie.Need-same-length-4
 same-length-4 c = search needs
@@ -63,9 +81,9 @@ same-length-5 c = search needs
 
 returns-2 : tie.Need-returns-2
 returns-2 c =
-    let s = c .before .before .before .before .before .before .before .before .before .before .before .before .before .before .before .before .before .before .before .before .before .before in
+    let s = c .before .before .before .before .before .before .before .before .before .before .before .before .before .before .before .before .before .before .before .before .before .before .before in
     let o = c .before .before .before .before .before .before .run in
-    found-eleven (s .args .bytes .now) (s .pre .0) (settingOf (s .args .setting)) (bonds (s .args .bytes .now) - 1) (o .result) _ _ (length (s .args .memo .now)) (c .before .before .before .before .before .before .before .before .before .before .before .before .before .before .before .zero .kept .0) (o .ensures) (c .before .if1 .left) (s .args .trail .now) (c .if2 .taken)
+    found-eleven (s .args .bytes .now) (s .pre .0) (s .args .setting) (bonds (s .args .bytes .now) - 1) (o .result) _ (s .args .memo .now) _ (c .before .before .before .before .before .before .before .before .before .before .before .before .before .before .before .before .zero .kept .0) (o .ensures) (c .before .if1 .left) (s .args .trail .now) (c .if2 .taken)
 
 same-length-6 : tie.Need-same-length-6
 same-length-6 c = search needs
@@ -75,9 +93,9 @@ same-length-7 c = search needs
 
 returns-3 : tie.Need-returns-3
 returns-3 c =
-    let s = c .before .before .before .before .before .before .before .before .before .before .before .before .before .before .before .before .before .before .before .before .before .before in
+    let s = c .before .before .before .before .before .before .before .before .before .before .before .before .before .before .before .before .before .before .before .before .before .before .before in
     let o = c .before .before .before .before .before .before .run in
-    found-twelve (s .args .bytes .now) (s .pre .0) (settingOf (s .args .setting)) (bonds (s .args .bytes .now) - 1) (o .result) _ _ (length (s .args .memo .now)) (c .before .before .before .before .before .before .before .before .before .before .before .before .before .before .before .zero .kept .0) (o .ensures) (c .before .if1 .left) (s .args .trail .now) (c .if2 .left)
+    found-twelve (s .args .bytes .now) (s .pre .0) (s .args .setting) (bonds (s .args .bytes .now) - 1) (o .result) _ (s .args .memo .now) _ (c .before .before .before .before .before .before .before .before .before .before .before .before .before .before .before .before .zero .kept .0) (o .ensures) (c .before .if1 .left) (s .args .trail .now) (c .if2 .left)
 
 pub find-spec : {M : Type 1} → statement M
 find-spec =
@@ -85,10 +103,14 @@ find-spec =
     (tie.spec
     zero-requires
     zero-requires-2
+    mul-words
+    sub-run
+    part-run-start
+    part-run-end
     run-requires
     slice-aggregate-write
     write-requires
-    cast-t28
+    cast-t33
     same-length
     same-length-2
     same-length-3

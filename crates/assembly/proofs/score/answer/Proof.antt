@@ -1,11 +1,10 @@
 -- `assembly::score::answer` meets its contract. Assumes nothing.
 use borrow.Author.Needs.{needs}
-use mathlib.Core.Path.{sym, ap, _∙_}
+use mathlib.Core.Path.{refl, sym, ap, _∙_}
 use lib.ListN.{length}
 use Rattle.tabulate.specs.Built.{answerOf}
-use Rattle.recurse.specs.Follows.{settingOf}
-use Rattle.assembly.specs.Answer.{roomOf}
-use Rattle.assembly.proofs.Scoring.{entry-accepts, score-table, score-built, built-ready}
+use Rattle.assembly.specs.Answer.{loan}
+use Rattle.assembly.proofs.Scoring.{told-table, told-built, built-ready}
 use Rattle.assembly.proofs.score.answer.Statement.{statement}
 use Rattle.assembly.proofs.score.answer.Tie as tie
 
@@ -21,7 +20,7 @@ find-requires c κs =
     let a = s .args in
     let b = c .before .before .before .before .before .before .before .before .before .before .before .build in
     let w = built-ready (a .bytes .now) (length (a .parts .now)) (a .pairs .now) (b .last .1 .1 .0) _ (sym (ap answerOf (c .before .before .before .before .before .n .given .1)) ∙ b .ensures .0) (b .ensures .1 .0) in
-    (s .pre .0, w .0, w .1, w .2, w .3, s .pre .3, s .pre .4)
+    (s .pre .ok, w .0, w .1, w .2, w .3, s .pre .trail, s .pre .desk)
 
 enum-known-k : tie.Need-enum-known-k
 enum-known-k c = search needs
@@ -48,8 +47,7 @@ returns : tie.Need-returns
 returns c =
     let s = c .before .before .before .before .before .before .before .before .before .before .before .before .before .before .before .before .before .before .before .before .before .before .before .before .before .before .before in
     let a = s .args in
-    let e = entry-accepts (a .bytes .now) (settingOf (a .setting)) (roomOf (a .trail .now) (a .parts .now) (a .pairs .now) (a .memo .now) (a .desk .now)) (s .pre .0) (s .pre .1) (s .pre .2) (s .pre .3) (s .pre .4) in
-    score-built (a .bytes .now) (settingOf (a .setting)) (roomOf (a .trail .now) (a .parts .now) (a .pairs .now) (a .memo .now) (a .desk .now)) e _ (sym (ap answerOf (c .before .before .before .before .before .before .before .before .before .before .before .before .n .given .1)) ∙ c .before .before .before .before .before .before .before .before .before .before .before .before .before .before .before .before .before .before .build .ensures .0) _ (a .trail .now) _ (c .before .before .before .before .before .before .find .ensures .0) (c .before .before .before .before .before .before .find .ensures .1)
+    told-built (a .bytes .now) (a .setting) (loan (a .trail .now) (a .parts .now) (a .pairs .now) (a .memo .now) (a .desk .now)) (s .pre) _ _ (sym (ap answerOf (c .before .before .before .before .before .before .before .before .before .before .before .before .n .given .1)) ∙ c .before .before .before .before .before .before .before .before .before .before .before .before .before .before .before .before .before .before .build .ensures .0) _ (c .before .before .before .before .before .before .find .ensures)
 
 same-length-6 : tie.Need-same-length-6
 same-length-6 c = search needs
@@ -61,8 +59,7 @@ returns-2 : tie.Need-returns-2
 returns-2 c =
     let s = c .before .before .before .before .before .before .before .before .before .before .before .before .before .before .before .before in
     let a = s .args in
-    let e = entry-accepts (a .bytes .now) (settingOf (a .setting)) (roomOf (a .trail .now) (a .parts .now) (a .pairs .now) (a .memo .now) (a .desk .now)) (s .pre .0) (s .pre .1) (s .pre .2) (s .pre .3) (s .pre .4) in
-    score-table (a .bytes .now) (settingOf (a .setting)) (roomOf (a .trail .now) (a .parts .now) (a .pairs .now) (a .memo .now) (a .desk .now)) e 9 _ (sym (ap answerOf (c .before .k .given .1)) ∙ c .before .before .before .before .before .before .before .build .ensures .0) (a .trail .now)
+    told-table (a .bytes .now) (a .setting) (loan (a .trail .now) (a .parts .now) (a .pairs .now) (a .memo .now) (a .desk .now)) (s .pre) _ 9 _ refl (sym (ap answerOf (c .before .k .given .1)) ∙ c .before .before .before .before .before .before .before .build .ensures .0)
 
 same-length-8 : tie.Need-same-length-8
 same-length-8 c = search needs
@@ -74,8 +71,7 @@ returns-3 : tie.Need-returns-3
 returns-3 c =
     let s = c .before .before .before .before .before .before .before .before .before .before .before .before .before .before .before .before in
     let a = s .args in
-    let e = entry-accepts (a .bytes .now) (settingOf (a .setting)) (roomOf (a .trail .now) (a .parts .now) (a .pairs .now) (a .memo .now) (a .desk .now)) (s .pre .0) (s .pre .1) (s .pre .2) (s .pre .3) (s .pre .4) in
-    score-table (a .bytes .now) (settingOf (a .setting)) (roomOf (a .trail .now) (a .parts .now) (a .pairs .now) (a .memo .now) (a .desk .now)) e 10 _ (sym (ap answerOf (c .before .n2 .given .1)) ∙ c .before .before .before .before .before .before .before .build .ensures .0) (a .trail .now)
+    told-table (a .bytes .now) (a .setting) (loan (a .trail .now) (a .parts .now) (a .pairs .now) (a .memo .now) (a .desk .now)) (s .pre) _ 10 _ refl (sym (ap answerOf (c .before .n2 .given .1)) ∙ c .before .before .before .before .before .before .before .build .ensures .0)
 
 pub answer-spec : {M : Type 1} → statement M
 answer-spec =

@@ -45,20 +45,13 @@ returns : tie.Need-returns
 returns c =
     let a = c .before .before .before .before .before .before .before .before .before .before .before .before .before .before .before .before .before .before .before .before .before .before .before .before .before .before .before .before .before .before .before .before .before .before .before .before .before .before .args in
     let w = c .before .before .before .before .before .before .before .before .before .before .before .before .before .before .before .before .before .before .before .before .before .before .before .before .before .before .answer in (
-      w .ensures .0,
-      (
-        w .ensures .1,
-        (
-          zeros (a .parts .now) _ _ (c .before .before .before .before .before .before .before .before .before .before .before .before .before .before .zero .ensures) (w .kept .1 .1 .1 .0),
-          (
-            zeros (a .pairs .now) _ _ (c .before .before .before .before .before .before .before .before .before .before .zero2 .ensures) (w .kept .1 .1 .1 .1 .0),
-            (
-              zeros (a .memo .now) _ _ (c .before .before .before .before .before .before .zero3 .ensures) (w .kept .1 .1 .1 .1 .1 .0),
-              zeros (a .desk .now) _ _ (c .before .before .zero4 .ensures) (w .kept .1 .1 .1 .1 .1 .1 .0),
-            ),
-          ),
-        ),
-      ),
+      w .ensures,
+      record {
+        parts = zeros (a .parts .now) _ _ (c .before .before .before .before .before .before .before .before .before .before .before .before .before .before .zero .ensures) (w .kept .1 .1 .1 .0);
+        pairs = zeros (a .pairs .now) _ _ (c .before .before .before .before .before .before .before .before .before .before .zero2 .ensures) (w .kept .1 .1 .1 .1 .0);
+        memo = zeros (a .memo .now) _ _ (c .before .before .before .before .before .before .zero3 .ensures) (w .kept .1 .1 .1 .1 .1 .0);
+        desk = zeros (a .desk .now) _ _ (c .before .before .zero4 .ensures) (w .kept .1 .1 .1 .1 .1 .1 .0);
+      },
     )
 
 pub answer-and-clear-spec : {M : Type 1} → statement M

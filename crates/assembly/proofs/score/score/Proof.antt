@@ -1,10 +1,9 @@
 -- `assembly::score::score` meets its contract. Assumes nothing.
 use borrow.Author.Needs.{needs}
-use mathlib.Core.Path.{sym, ap, _∙_}
+use mathlib.Core.Path.{refl, sym, ap, _∙_}
 use Rattle.molecule.specs.Verdict.{answerOf}
-use Rattle.recurse.specs.Follows.{settingOf}
-use Rattle.assembly.specs.Answer.{roomOf}
-use Rattle.assembly.proofs.Scoring.{record-back, demand-met}
+use Rattle.assembly.specs.Answer.{loan, roomOf}
+use Rattle.assembly.proofs.Scoring.{record-back, answers-early}
 use Rattle.assembly.proofs.score.score.Statement.{statement}
 use Rattle.assembly.proofs.score.score.Tie as tie
 
@@ -36,16 +35,12 @@ same-length-5 : tie.Need-same-length-5
 same-length-5 c = search needs
 
 returns : tie.Need-returns
-returns c =
-    let a = c .before .before .before .before .before .before .before .before .before .before .before .before .before .before .before .before .before .before .before .before .before .before .before .before .before .args in
-    let w = c .before .before .before .before .before .before .before .before .before .before .score-accepted .ensures in
-    (w .0, (w .1 .0, (w .1 .1 .0, (w .1 .1 .1 .0, (w .1 .1 .1 .1 .0, (w .1 .1 .1 .1 .1, demand-met (a .bytes .now) (settingOf (a .setting)) (roomOf (a .trail .now) (a .parts .now) (a .pairs .now) (a .memo .now) (a .desk .now)) _ _ (w .0)))))))
+returns c = search needs
 
 returns-2 : tie.Need-returns-2
 returns-2 c =
     let a = c .before .before .before .before .before .before .before .before .before .before .args in
-    let w = record-back (a .bytes .now) (settingOf (a .setting)) (roomOf (a .trail .now) (a .parts .now) (a .pairs .now) (a .memo .now) (a .desk .now)) (c .before .fault .given .0 .0) (sym (sym (ap answerOf (c .before .fault .given .1)) ∙ c .before .before .before .check .ensures)) in
-    (w .answer, (w .trail (a .trail .now), (w .table (a .parts .now), (w .table (a .pairs .now), (w .table (a .memo .now), (w .table (a .desk .now), demand-met (a .bytes .now) (settingOf (a .setting)) (roomOf (a .trail .now) (a .parts .now) (a .pairs .now) (a .memo .now) (a .desk .now)) _ _ (w .answer)))))))
+    answers-early (record-back (a .bytes .now) (a .setting) (roomOf (loan (a .trail .now) (a .parts .now) (a .pairs .now) (a .memo .now) (a .desk .now))) (c .before .fault .given .0 .0) (sym (sym (ap answerOf (c .before .fault .given .1)) ∙ c .before .before .before .check .ensures))) refl
 
 pub score-spec : {M : Type 1} → statement M
 score-spec =

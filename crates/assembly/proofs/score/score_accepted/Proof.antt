@@ -1,8 +1,9 @@
 -- `assembly::score::score_accepted` meets its contract. Assumes nothing.
 use borrow.Author.Needs.{needs}
-use Rattle.recurse.specs.Follows.{settingOf}
-use Rattle.assembly.specs.Answer.{roomOf}
-use Rattle.assembly.proofs.Scoring.{bounds-back, memo-back, trail-back, desk-back, entry-accepts, zeros-after}
+use mathlib.Core.Path.{refl}
+use Rattle.assembly.specs.Answer.{loan, roomOf}
+use Rattle.assembly.specs.Inner.Parts.{Admitted}
+use Rattle.assembly.proofs.Scoring.{bounds-back, memo-back, trail-back, desk-back, answers-early, answers-by, leaves-cleared}
 use Rattle.assembly.proofs.score.score_accepted.Statement.{statement}
 use Rattle.assembly.proofs.score.score_accepted.Tie as tie
 
@@ -10,29 +11,25 @@ returns : tie.Need-returns
 returns c =
     let s = c .before .before .before .before .before .before .before .before in
     let a = s .args in
-    let w = bounds-back (a .bytes .now) (settingOf (a .setting)) (roomOf (a .trail .now) (a .parts .now) (a .pairs .now) (a .memo .now) (a .desk .now)) (s .pre) (c .if1 .taken) in
-    (w .answer, (w .trail (a .trail .now), (w .table (a .parts .now), (w .table (a .pairs .now), (w .table (a .memo .now), w .table (a .desk .now))))))
+    answers-early (bounds-back (a .bytes .now) (a .setting) (roomOf (loan (a .trail .now) (a .parts .now) (a .pairs .now) (a .memo .now) (a .desk .now))) (s .pre) (c .if1 .taken)) refl
 
 returns-2 : tie.Need-returns-2
 returns-2 c =
     let s = c .before .before .before .before .before .before .before .before .before .before in
     let a = s .args in
-    let w = memo-back (a .bytes .now) (settingOf (a .setting)) (roomOf (a .trail .now) (a .parts .now) (a .pairs .now) (a .memo .now) (a .desk .now)) (s .pre) (c .if2 .taken) in
-    (w .answer, (w .trail (a .trail .now), (w .table (a .parts .now), (w .table (a .pairs .now), (w .table (a .memo .now), w .table (a .desk .now))))))
+    answers-early (memo-back (a .bytes .now) (a .setting) (roomOf (loan (a .trail .now) (a .parts .now) (a .pairs .now) (a .memo .now) (a .desk .now))) (s .pre) (c .if2 .taken)) refl
 
 returns-3 : tie.Need-returns-3
 returns-3 c =
     let s = c .before .before .before .before .before .before .before .before .before .before .before in
     let a = s .args in
-    let w = trail-back (a .bytes .now) (settingOf (a .setting)) (roomOf (a .trail .now) (a .parts .now) (a .pairs .now) (a .memo .now) (a .desk .now)) (s .pre) (c .before .before .before .if1 .left) (c .before .if2 .left) (c .if3 .taken) in
-    (w .answer, (w .trail (a .trail .now), (w .table (a .parts .now), (w .table (a .pairs .now), (w .table (a .memo .now), w .table (a .desk .now))))))
+    answers-early (trail-back (a .bytes .now) (a .setting) (roomOf (loan (a .trail .now) (a .parts .now) (a .pairs .now) (a .memo .now) (a .desk .now))) (s .pre) (c .before .before .before .if1 .left) (c .before .if2 .left) (c .if3 .taken)) refl
 
 returns-4 : tie.Need-returns-4
 returns-4 c =
     let s = c .before .before .before .before .before .before .before .before .before .before .before .before in
     let a = s .args in
-    let w = desk-back (a .bytes .now) (settingOf (a .setting)) (roomOf (a .trail .now) (a .parts .now) (a .pairs .now) (a .memo .now) (a .desk .now)) (s .pre) (c .before .before .before .before .if1 .left) (c .before .before .if2 .left) (c .if4 .taken) in
-    (w .answer, (w .trail (a .trail .now), (w .table (a .parts .now), (w .table (a .pairs .now), (w .table (a .memo .now), w .table (a .desk .now))))))
+    answers-early (desk-back (a .bytes .now) (a .setting) (roomOf (loan (a .trail .now) (a .parts .now) (a .pairs .now) (a .memo .now) (a .desk .now))) (s .pre) (c .before .before .before .before .if1 .left) (c .before .before .if2 .left) (c .if4 .taken)) refl
 
 answer-and-clear-requires : tie.Need-answer-and-clear-requires
 answer-and-clear-requires c κs = search needs
@@ -57,8 +54,8 @@ returns-5 c =
     let s = c .before .before .before .before .before .before .before .before .before .before .before .before .before .before .before .before .before .before .before .before .before .before .before .before .before .before .before .before in
     let a = s .args in
     let w = c .before .before .before .before .before .before .before .before .before .before .answer-and-clear .ensures in
-    let z = zeros-after (a .bytes .now) (settingOf (a .setting)) (roomOf (a .trail .now) (a .parts .now) (a .pairs .now) (a .memo .now) (a .desk .now)) (entry-accepts (a .bytes .now) (settingOf (a .setting)) (roomOf (a .trail .now) (a .parts .now) (a .pairs .now) (a .memo .now) (a .desk .now)) (s .pre) (c .before .before .before .before .before .before .before .before .before .before .before .before .before .before .before .before .before .before .before .before .if1 .left) (c .before .before .before .before .before .before .before .before .before .before .before .before .before .before .before .before .before .before .if2 .left) (c .before .before .before .before .before .before .before .before .before .before .before .before .before .before .before .before .before .if3 .left) (c .before .before .before .before .before .before .before .before .before .before .before .before .before .before .before .before .if4 .left)) in
-    (w .0, (w .1 .0, (z (a .parts .now) _ (w .1 .1 .0), (z (a .pairs .now) _ (w .1 .1 .1 .0), (z (a .memo .now) _ (w .1 .1 .1 .1 .0), z (a .desk .now) _ (w .1 .1 .1 .1 .1))))))
+    let e : Admitted (a .bytes .now) (a .setting) (loan (a .trail .now) (a .parts .now) (a .pairs .now) (a .memo .now) (a .desk .now)) = record { ok = s .pre; bounds = c .before .before .before .before .before .before .before .before .before .before .before .before .before .before .before .before .before .before .before .before .if1 .left; memo = c .before .before .before .before .before .before .before .before .before .before .before .before .before .before .before .before .before .before .if2 .left; trail = c .before .before .before .before .before .before .before .before .before .before .before .before .before .before .before .before .before .if3 .left; desk = c .before .before .before .before .before .before .before .before .before .before .before .before .before .before .before .before .if4 .left } in
+    answers-by (w .0 .answer) (leaves-cleared (a .bytes .now) (a .setting) (loan (a .trail .now) (a .parts .now) (a .pairs .now) (a .memo .now) (a .desk .now)) e _ (w .0 .ends) (w .1))
 
 pub score-accepted-spec : {M : Type 1} → statement M
 score-accepted-spec =

@@ -3,7 +3,7 @@ use borrow.Author.Needs.{needs}
 use mathlib.Core.Path.{_≡_, sym, ap, _∙_}
 use Rattle.molecule.specs.Record.{endA}
 use Rattle.molecule.proofs.Accepted.{end-few}
-use Rattle.canonize.specs.Words.{isTip, far}
+use Rattle.canonize.specs.Inner.Words.{isTip, far}
 use Rattle.canonize.proofs.peel.far_end.Statement.{statement}
 use Rattle.canonize.proofs.peel.far_end.Tie as tie
 

@@ -11,7 +11,7 @@ use Rattle.bitset.specs.Bits.{size}
 use Rattle.bitset.proofs.Laws.{size-empty, size-zero}
 use Rattle.molecule.specs.Touch.{bondsAt}
 use Rattle.molecule.proofs.Words.{atoms-at}
-use Rattle.canonize.specs.Words.{isTip}
+use Rattle.canonize.specs.Inner.Words.{isTip}
 use Rattle.canonize.proofs.peel.is_tip.Statement.{statement}
 use Rattle.canonize.proofs.peel.is_tip.Tie as tie
 

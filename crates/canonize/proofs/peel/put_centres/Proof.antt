@@ -1,139 +1,160 @@
 -- `canonize::peel::put_centres` meets its contract. Assumes nothing.
 use borrow.Author.Needs.{needs}
-use mathlib.Core.Path.{_≡_, ap, _∙_}
-use mathlib.Core.List.{[], _∷_}
-use Prim.Native.Nat.{ℕ, _+_, _-_, _≤_}
+use mathlib.Core.Path.{sym, _∙_}
+use Prim.Native.Nat.{ℕ}
 use native.Mathlib.Omega.{arith}
-use lib.ListN.{length, take, drop, set, length-set}
+use lib.ListN.{length-set}
 use Rattle.molecule.specs.Lists.{Bytes}
-use Rattle.molecule.specs.Record.{endA, endB, code}
+use Rattle.molecule.specs.Record.{endA, endB}
 use Rattle.canonize.specs.Strings.{collapse}
-use Rattle.canonize.specs.Buffers.{slot, Wrote}
-use Rattle.canonize.specs.Words.{stringsAt}
-use Rattle.canonize.proofs.Wrapping.{length-collapse-two}
-use Rattle.canonize.proofs.Writing.{wrote-byte, wrote-length, wrote-then, wrote-read, wrote-read-then}
+use Rattle.canonize.specs.Inner.Slate.{slot}
+use Rattle.canonize.specs.Inner.Places.{Wrote}
+use Rattle.canonize.specs.Inner.Words.{stringsAt, centres}
+use Rattle.canonize.proofs.Putting.{Ends, Begun, begun-serves, begun-short, first-room, first-serves, second-room, ends-places, ends-wide, centres-begun}
+use Rattle.canonize.proofs.Putting.{centres-label}
 use Rattle.canonize.proofs.peel.put_centres.Statement.{statement}
 use Rattle.canonize.proofs.peel.put_centres.Tie as tie
 
--- the collapsed strings of an atom
-abbrev string : tie.Start → ℕ → Bytes
-string s v = collapse (stringsAt (s .args .bytes .now) (s .args .s) (s .args .left) (slot (s .args .arena .now) (s .args .lengths .now)) v)
+-- the way back: from the label to the second string, to the first, to its place, and to the start
+abbrev to-second : tie.After-put-two → tie.After-put-atom2
+to-second c = c .before .before .before .before .before .before
 
-abbrev one : tie.Start → Bytes
-one s = string s (endA (s .args .bytes .now) (s .args .i))
+abbrev to-first : tie.After-put-atom2 → tie.After-put-atom
+to-first c = c .before .before .before .before .before
 
-abbrev other : tie.Start → Bytes
-other s = string s (endB (s .args .bytes .now) (s .args .i))
+abbrev to-place : tie.After-put-atom → tie.After-start
+to-place c = c .before .before .before
 
--- what they take
-room : (s : tie.Start) → length (one s) + length (other s) ≤ 384
-room s = omega (arith, length-collapse-two (one s) (other s), s .pre .5)
+abbrev to-start : tie.After-start → tie.Start
+to-start c = c .before .before .before
 
-code-requires : tie.Need-code-requires
-code-requires c κs = search needs
+-- the slate after the first string, and after the second
+abbrev slate-one : tie.After-put-atom → Bytes
+slate-one c = c .put-atom .last .1 .1 .1 .1 .1 .0
 
-slice-write-out : tie.Need-slice-write-out
-slice-write-out c = search needs
+abbrev slate-two : tie.After-put-atom2 → Bytes
+slate-two c = c .put-atom2 .last .1 .1 .1 .1 .1 .0
+
+-- the collapsed strings of an atom, by a slate
+abbrev string : tie.Start → Bytes → ℕ → Bytes
+string s slate v = collapse (stringsAt (s .args .bytes .now) (s .args .s) (s .args .left) (slot slate) v)
+
+abbrev label : tie.Start → Bytes
+label s = centres (s .args .bytes .now) (s .args .s) (s .args .left) (slot (s .args .slate .now)) (s .args .i)
+
+ends : (c : tie.After-start)
+    → (let a = to-start c .args in Ends (a .bytes .now) (a .s) (a .left) (a .i) (a .k) (a .slate .now) (c .start .result))
+ends c =
+    let p = to-start c .pre in
+    record { serves = p .3; left = p .6; small = omega (arith, p .0 .sized .few, p .2); high = p .4; within = p .5; at = c .start .ensures; fits = p .7 }
+
+start-requires : tie.Need-start-requires
+start-requires c κs = search needs
 
 end-a-requires : tie.Need-end-a-requires
 end-a-requires c κs = search needs
 
 put-atom-requires : tie.Need-put-atom-requires
 put-atom-requires c κs =
-    let s : tie.Start = c .before .before .before .before .before .before .before .before in
+    let s : tie.Start = to-start (c .before .before) in
     let e = c .before .end-a .ensures in
-    (s .pre .0, s .pre .1, omega (arith, e, s .pre .0 .ends (s .args .i) (s .pre .2) .0), s .pre .3, omega (arith, ap (λ (v : ℕ). length (string s v)) e, room s, s .pre .4))
+    (s .pre .0, s .pre .1, rw e (s .pre .0 .ends (s .args .i) (s .pre .2) .0), s .pre .3, rw e (first-room (ends (c .before .before))))
 
 end-b-requires : tie.Need-end-b-requires
 end-b-requires c κs = search needs
 
--- the first string is on the desk
-first : (c : tie.After-put-atom) → Wrote (c .before .before .before .before .before .before .before .before .before .args .desk .now) 0 (one (c .before .before .before .before .before .before .before .before .before)) (c .put-atom .result) (c .put-atom .last .1 .1 .1 .1 .1 .1 .1 .0)
+-- the first string is written
+first : (c : tie.After-put-atom)
+    → (let s = to-start (to-place c) in Wrote (s .args .slate .now) (to-place c .start .result)
+    (string s (s .args .slate .now) (endA (s .args .bytes .now) (s .args .i))) (c .put-atom .result) (slate-one c))
 first c = rw (← c .before .before .end-a .ensures) (c .put-atom .ensures)
-
-first-length : (c : tie.After-put-atom) → length (c .put-atom .last .1 .1 .1 .1 .1 .1 .1 .0) ≡ length (c .before .before .before .before .before .before .before .before .before .args .desk .now)
-first-length c = wrote-length (first c) (omega (arith, room (c .before .before .before .before .before .before .before .before .before), c .before .before .before .before .before .before .before .before .before .pre .4))
 
 put-atom-requires-2 : tie.Need-put-atom-requires-2
 put-atom-requires-2 c κs =
-    let s : tie.Start = c .before .before .before .before .before .before .before .before .before .before .before .before .before in
-    let e = c .before .end-b .ensures in
-    (s .pre .0, s .pre .1, omega (arith, e, s .pre .0 .ends (s .args .i) (s .pre .2) .1), s .pre .3, omega (arith, ap (λ (v : ℕ). length (string s v)) e, room s, s .pre .4, first (c .before .before .before .before) .place, first-length (c .before .before .before .before)))
+    let w = to-place (c .before .before .before .before) in
+    let s : tie.Start = to-start w in
+    let e = c .before .end-b .ensures in (
+      s .pre .0,
+      s .pre .1,
+      rw e (s .pre .0 .ends (s .args .i) (s .pre .2) .1),
+      first-serves (ends w) (first (c .before .before .before .before)),
+      rw e (second-room (ends w) (first (c .before .before .before .before))),
+    )
+
+start-requires-2 : tie.Need-start-requires-2
+start-requires-2 c κs = search needs
+
+code-requires : tie.Need-code-requires
+code-requires c κs = search needs
+
+slice-write-slate : tie.Need-slice-write-slate
+slice-write-slate c = search needs
+
+add-put-two : tie.Need-add-put-two
+add-put-two c = search needs
 
 -- and the second after it
-second : (c : tie.After-put-atom2) → Wrote (c .before .before .before .before .before .put-atom .last .1 .1 .1 .1 .1 .1 .1 .0) (c .before .before .before .before .before .put-atom .result) (other (c .before .before .before .before .before .before .before .before .before .before .before .before .before .before)) (c .put-atom2 .result) (c .put-atom2 .last .1 .1 .1 .1 .1 .1 .1 .0)
+second : (c : tie.After-put-atom2)
+    → (let d = to-first c in let s = to-start (to-place d) in Wrote (slate-one d) (d .put-atom .result)
+    (string s (slate-one d) (endB (s .args .bytes .now) (s .args .i))) (c .put-atom2 .result) (slate-two c))
 second c = rw (← c .before .before .end-b .ensures) (c .put-atom2 .ensures)
-
-second-length : (c : tie.After-put-atom2) → length (c .put-atom2 .last .1 .1 .1 .1 .1 .1 .1 .0) ≡ length (c .before .before .before .before .before .before .before .before .before .before .before .before .before .before .args .desk .now)
-second-length c = wrote-length (second c) (omega (arith, room (c .before .before .before .before .before .before .before .before .before .before .before .before .before .before), c .before .before .before .before .before .before .before .before .before .before .before .before .before .before .pre .4, first (c .before .before .before .before .before) .place, first-length (c .before .before .before .before .before))) ∙ first-length (c .before .before .before .before .before)
-
--- both are read back
-read-one : (c : tie.After-put-atom2) → take (c .before .before .before .before .before .put-atom .result - 0) (c .put-atom2 .last .1 .1 .1 .1 .1 .1 .1 .0) ≡ one (c .before .before .before .before .before .before .before .before .before .before .before .before .before .before)
-read-one c = wrote-read-then (first (c .before .before .before .before .before)) (second c) (omega (arith, room (c .before .before .before .before .before .before .before .before .before .before .before .before .before .before), c .before .before .before .before .before .before .before .before .before .before .before .before .before .before .pre .4))
-
-read-other : (c : tie.After-put-atom2) → take (c .put-atom2 .result - c .before .before .before .before .before .put-atom .result) (drop (c .before .before .before .before .before .put-atom .result) (c .put-atom2 .last .1 .1 .1 .1 .1 .1 .1 .0)) ≡ other (c .before .before .before .before .before .before .before .before .before .before .before .before .before .before)
-read-other c = wrote-read (second c) (omega (arith, room (c .before .before .before .before .before .before .before .before .before .before .before .before .before .before), c .before .before .before .before .before .before .before .before .before .before .before .before .before .before .pre .4, first (c .before .before .before .before .before) .place, first-length (c .before .before .before .before .before)))
-
-sub-put-two : tie.Need-sub-put-two
-sub-put-two c = search needs
-
-part-put-two-start : tie.Need-part-put-two-start
-part-put-two-start c = search needs
-
-part-put-two-end : tie.Need-part-put-two-end
-part-put-two-end c = omega (arith, room (c .before .before .before .before .before .before .before .before .before .before .before .before .before .before .before .before .before), c .before .before .before .before .before .before .before .before .before .before .before .before .before .before .before .before .before .pre .4, first (c .before .before .before .before .before .before .before .before) .place, second-length (c .before .before .before))
-
-sub-put-two-2 : tie.Need-sub-put-two-2
-sub-put-two-2 c = omega (arith, second (c .before .before .before .before) .place)
-
-part-put-two-start-2 : tie.Need-part-put-two-start-2
-part-put-two-start-2 c = omega (arith, room (c .before .before .before .before .before .before .before .before .before .before .before .before .before .before .before .before .before .before), c .before .before .before .before .before .before .before .before .before .before .before .before .before .before .before .before .before .before .pre .4, first (c .before .before .before .before .before .before .before .before .before) .place, second-length (c .before .before .before .before))
-
-part-put-two-end-2 : tie.Need-part-put-two-end-2
-part-put-two-end-2 c = omega (arith, room (c .before .before .before .before .before .before .before .before .before .before .before .before .before .before .before .before .before .before), c .before .before .before .before .before .before .before .before .before .before .before .before .before .before .before .before .before .before .pre .4, first (c .before .before .before .before .before .before .before .before .before) .place, second (c .before .before .before .before) .place, second-length (c .before .before .before .before))
 
 put-two-requires : tie.Need-put-two-requires
 put-two-requires c κs =
-    let s : tie.Start = c .before .before .before .before .before .before .before .before .before .before .before .before .before .before .before .before .before .before .before .before in
-    rw (read-one (c .before .before .before .before .before .before), read-other (c .before .before .before .before .before .before), length-set (s .args .out .now) 0 (c .before .before .before .before .before .before .before .before .before .before .before .before .before .before .code .result))
-    (omega (arith, s .pre .5, s .pre .6))
+    let d = to-first (c .before .before .before .before .before) in
+    let w = to-place d in
+    let (a, b, l, m) = ends-places (ends w) (first d) (second (c .before .before .before .before .before)) in
+    let to = c .before .before .start2 .ensures in (
+      a,
+      b,
+      omega (arith, l, to),
+      simp length-set (omega (arith, m, ends-wide (ends w) (first d) (second (c .before .before .before .before .before)), to, to-start w .pre .5)),
+    )
+
+sub-set-length : tie.Need-sub-set-length
+sub-set-length c = search needs
+
+-- all of the label
+begun : (c : tie.After-put-two)
+    → (let d = to-second c in let s = to-start (to-place (to-first d)) in Begun (slate-two d) (s .args .k) (c .before .before .before .start2 .result)
+    (label s) (c .put-two .result) (c .put-two .last .0))
+begun c =
+    let d = to-second c in
+    centres-begun (ends (to-place (to-first d))) (first (to-first d)) (second d) (c .before .before .before .start2 .ensures)
+    (c .before .before .code .ensures) (c .put-two .ensures)
+
+set-length-requires : tie.Need-set-length-requires
+set-length-requires c κs =
+    let w = begun (c .before .before .before) in
+    (begun-serves w, w .within, begun-short w .1)
 
 same-length : tie.Need-same-length
-same-length c = search needs
-
--- the bond code, and the two strings after it
-head : (c : tie.After-code) → Wrote (c .before .before .before .before .before .before .args .out .now) 0 (code (c .before .before .before .before .before .before .args .bytes .now) (c .before .before .before .before .before .before .args .i) ∷ []) 1 (set (c .before .before .before .before .before .before .args .out .now) 0 (c .code .result))
-head c = rw (← c .code .ensures) (wrote-byte (c .before .before .before .before .before .before .args .out .now) 0 (c .code .result) (omega (arith, c .before .before .before .before .before .before .pre .6)))
-
-rest : (c : tie.After-put-two) → Wrote (set (c .before .before .before .before .before .before .before .before .before .before .before .before .before .before .before .before .before .before .before .before .before .args .out .now) 0 (c .before .before .before .before .before .before .before .before .before .before .before .before .before .before .before .code .result)) 1 (collapse (one (c .before .before .before .before .before .before .before .before .before .before .before .before .before .before .before .before .before .before .before .before .before) ∷ other (c .before .before .before .before .before .before .before .before .before .before .before .before .before .before .before .before .before .before .before .before .before) ∷ [])) (c .put-two .result) (c .put-two .last .1 .1 .0)
-rest c = rw (← read-one (c .before .before .before .before .before .before .before), ← read-other (c .before .before .before .before .before .before .before)) (c .put-two .ensures)
-
-both : (c : tie.After-put-two) → Wrote (c .before .before .before .before .before .before .before .before .before .before .before .before .before .before .before .before .before .before .before .before .before .args .out .now) 0 (code (c .before .before .before .before .before .before .before .before .before .before .before .before .before .before .before .before .before .before .before .before .before .args .bytes .now) (c .before .before .before .before .before .before .before .before .before .before .before .before .before .before .before .before .before .before .before .before .before .args .i) ∷ collapse (one (c .before .before .before .before .before .before .before .before .before .before .before .before .before .before .before .before .before .before .before .before .before) ∷ other (c .before .before .before .before .before .before .before .before .before .before .before .before .before .before .before .before .before .before .before .before .before) ∷ [])) (c .put-two .result) (c .put-two .last .1 .1 .0)
-both c = wrote-then (head (c .before .before .before .before .before .before .before .before .before .before .before .before .before .before .before)) (rest c) (omega (arith, c .before .before .before .before .before .before .before .before .before .before .before .before .before .before .before .before .before .before .before .before .before .pre .5, c .before .before .before .before .before .before .before .before .before .before .before .before .before .before .before .before .before .before .before .before .before .pre .6))
-
-same-length-2 : tie.Need-same-length-2
-same-length-2 c = wrote-length (both (c .before .before)) (omega (arith, c .before .before .before .before .before .before .before .before .before .before .before .before .before .before .before .before .before .before .before .before .before .before .before .pre .5, c .before .before .before .before .before .before .before .before .before .before .before .before .before .before .before .before .before .before .before .before .before .before .before .pre .6))
+same-length c =
+    let s : tie.Start = to-start (to-place (to-first (to-second (c .before .before .before .before .before .before)))) in
+    c .before .before .set-length .ensures .serves .wide ∙ sym (s .pre .3 .wide)
 
 returns : tie.Need-returns
-returns c = both (c .before .before)
+returns c =
+    let b = c .before .before .before .before .before .before in
+    let d = to-second b in
+    centres-label (ends (to-place (to-first d))) (first (to-first d)) (second d) (b .before .before .before .start2 .ensures)
+    (b .before .before .code .ensures) (begun b) (c .before .before .set-length .ensures)
 
 pub put-centres-spec : {M : Type 1} → statement M
 put-centres-spec =
     tie.close
     (tie.spec
-    code-requires
-    slice-write-out
+    start-requires
     end-a-requires
     put-atom-requires
     end-b-requires
     put-atom-requires-2
-    sub-put-two
-    part-put-two-start
-    part-put-two-end
-    sub-put-two-2
-    part-put-two-start-2
-    part-put-two-end-2
+    start-requires-2
+    code-requires
+    slice-write-slate
+    add-put-two
     put-two-requires
+    sub-set-length
+    set-length-requires
     same-length
-    same-length-2
     returns)

@@ -6,19 +6,20 @@ use native.Mathlib.Omega.{arith}
 use lib.Bits.{and-self}
 use Rattle.bitset.specs.Bits.{Sub, diff, size}
 use Rattle.bitset.proofs.Laws.{diff-zero}
-use Rattle.canonize.specs.Buffers.{slot, After}
+use Rattle.canonize.specs.Inner.Slate.{slot}
+use Rattle.canonize.specs.Inner.Places.{After}
 use Rattle.canonize.proofs.Passing.{turn, passed-none, after-none, after-with, after-less}
 use Rattle.canonize.proofs.strings.after_byte.Statement.{statement}
 use Rattle.canonize.proofs.strings.after_byte.Tie as tie
 
 abbrev Inv-loop : tie.InvT-loop
-Inv-loop arena lengths set e rest₀ after₀ rest after = (rest < 2 ^ 64) × Sub rest set × After (slot arena lengths) (diff set rest) e after
+Inv-loop slate set e rest₀ after₀ rest after = (rest < 2 ^ 64) × Sub rest set × After (slot slate) (diff set rest) e after
 
 abbrev μ-loop : tie.MeasureT-loop
-μ-loop arena lengths set e rest₀ after₀ rest after = size rest
+μ-loop slate set e rest₀ after₀ rest after = size rest
 
 loop-holds : tie.Need-loop-holds Inv-loop μ-loop
-loop-holds c = (search needs, and-self (c .before .before .args .set), rw (passed-none (c .before .before .args .set)) (after-none (c .before .before .args .e)))
+loop-holds c = (search needs, and-self (c .before .args .set), rw (passed-none (c .before .args .set)) (after-none (c .before .args .e)))
 
 lowest-requires : tie.Need-lowest-requires Inv-loop μ-loop
 lowest-requires c κs = omega arith
@@ -27,7 +28,7 @@ without-lowest-requires : tie.Need-without-lowest-requires Inv-loop μ-loop
 without-lowest-requires c κs = omega arith
 
 byte-before-requires : tie.Need-byte-before-requires Inv-loop μ-loop
-byte-before-requires c κs = (c .before .before .before .before .before .before .pre, c .before .lowest .ensures .within)
+byte-before-requires c κs = (c .before .before .before .before .before .pre, c .before .lowest .ensures .within)
 
 insert-requires : tie.Need-insert-requires Inv-loop μ-loop
 insert-requires c κs = c .before .before .before .lowest .ensures .within
@@ -37,16 +38,24 @@ loop-less c = omega (arith, c .before .before .before .without-lowest .ensures .
 
 loop-again : tie.Need-loop-again Inv-loop μ-loop
 loop-again c =
-    let t = turn (c .before .before .before .before .before .before .loop .inv .1) (c .before .before .before .before .lowest .ensures) (c .before .before .before .without-lowest .ensures) in
-    (omega (arith, c .before .before .before .without-lowest .ensures .below, c .before .before .before .before .before .before .loop .inv .0), t .within, rw (t .passed, c .insert .ensures) (after-with (c .before .before .before .before .lowest .result) (c .before .before .before .before .before .before .loop .inv .2) (sym (c .before .before .byte-before .ensures) ∙ c .before .if1 .taken)))
+    let l = c .before .before .before .before .before .before .loop in
+    let i = c .before .before .before .before .lowest in
+    let r = c .before .before .before .without-lowest .ensures in
+    let t = turn (l .inv .1) (i .ensures) r in
+    let e = sym (c .before .before .byte-before .ensures) ∙ c .before .if1 .taken in
+    (omega (arith, r .below, l .inv .0), t .within, rw (t .passed, c .insert .ensures) (after-with (i .result) (l .inv .2) e))
 
 loop-less-2 : tie.Need-loop-less-2 Inv-loop μ-loop
 loop-less-2 c = omega (arith, c .before .before .without-lowest .ensures .fewer)
 
 loop-again-2 : tie.Need-loop-again-2 Inv-loop μ-loop
 loop-again-2 c =
-    let t = turn (c .before .before .before .before .before .loop .inv .1) (c .before .before .before .lowest .ensures) (c .before .before .without-lowest .ensures) in
-    (omega (arith, c .before .before .without-lowest .ensures .below, c .before .before .before .before .before .loop .inv .0), t .within, rw (t .passed) (after-less (c .before .before .before .lowest .result) (c .before .before .before .before .before .loop .inv .2) (sym (c .before .byte-before .ensures) ∙ c .if1 .left)))
+    let l = c .before .before .before .before .before .loop in
+    let i = c .before .before .before .lowest in
+    let r = c .before .before .without-lowest .ensures in
+    let t = turn (l .inv .1) (i .ensures) r in
+    let e = sym (c .before .byte-before .ensures) ∙ c .if1 .left in
+    (omega (arith, r .below, l .inv .0), t .within, rw (t .passed) (after-less (i .result) (l .inv .2) e))
 
 returns : tie.Need-returns Inv-loop μ-loop
 returns c = rw (c .loop-test .left, diff-zero) at (c .before .loop .inv .2)

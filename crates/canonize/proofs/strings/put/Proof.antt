@@ -1,28 +1,24 @@
 -- `canonize::strings::put` meets its contract. Assumes nothing.
 use mathlib.Core.Path.{_≡_, refl, ap, _∙_}
-use Prim.Native.Nat.{_+_, _-_, _≤_, _<_}
+use Prim.Native.Nat.{_-_, _≤_}
 use native.Mathlib.Omega.{arith}
-use native.Mathlib.Numerals.{add-one}
 use lib.ListN.{length, getD, length-set}
-use lib.Seq.{paste, paste-zero, paste-suc}
-use Rattle.canonize.proofs.Writing.{written-paste}
+use lib.Seq.{paste, paste-zero}
+use Rattle.canonize.proofs.Writing.{written-paste, front-next}
 use Rattle.canonize.proofs.strings.put.Statement.{statement}
 use Rattle.canonize.proofs.strings.put.Tie as tie
 
 abbrev Inv-loop : tie.InvT-loop
-Inv-loop out₀ at x n j₀ out j = (j ≤ length x) × (out ≡ paste out₀ at x j) × (length out ≡ length out₀)
+Inv-loop out₀ x n j₀ out j = (j ≤ length x) × (out ≡ paste out₀ 0 x j) × (length out ≡ length out₀)
 
 abbrev μ-loop : tie.MeasureT-loop
-μ-loop out₀ at x n j₀ out j = length x - j
+μ-loop out₀ x n j₀ out j = length x - j
 
 loop-holds : tie.Need-loop-holds Inv-loop μ-loop
-loop-holds c = (omega arith, paste-zero (c .args .out .now) (c .args .at) (c .args .x .now), refl)
+loop-holds c = (omega arith, paste-zero (c .args .out .now) 0 (c .args .x .now), refl)
 
 shared-slice-read-out : tie.Need-shared-slice-read-out Inv-loop μ-loop
 shared-slice-read-out c = omega arith
-
-add-out : tie.Need-add-out Inv-loop μ-loop
-add-out c = omega arith
 
 slice-write-out : tie.Need-slice-write-out Inv-loop μ-loop
 slice-write-out c = omega arith
@@ -36,15 +32,11 @@ loop-less c = omega arith
 loop-again : tie.Need-loop-again Inv-loop μ-loop
 loop-again c =
     let a = c .before .before .before .args in
-    let l = c .before .before .loop in
-    let h : a .at + l .j < length (a .out .now) = omega (arith, c .before .before .before .pre) in (
+    let l = c .before .before .loop in (
       omega arith,
-      rw (l .inv .1, add-one) (paste-suc (a .out .now) (a .at) (a .x .now) (l .j) 0 h (c .before .loop-test .taken)),
-      length-set (l .out) (a .at + l .j) (getD (a .x .now) (l .j) 0) ∙ l .inv .2,
+      front-next (a .out .now) (a .x .now) (l .j) (l .out) (omega (arith, c .before .before .before .pre)) (c .before .loop-test .taken) (l .inv .1),
+      length-set (l .out) (l .j) (getD (a .x .now) (l .j) 0) ∙ l .inv .2,
     )
-
-add-result : tie.Need-add-result Inv-loop μ-loop
-add-result c = omega arith
 
 same-length : tie.Need-same-length Inv-loop μ-loop
 same-length c = c .before .loop .inv .2
@@ -53,7 +45,7 @@ returns : tie.Need-returns Inv-loop μ-loop
 returns c =
     let a = c .before .before .args in
     let e : c .before .loop .j ≡ length (a .x .now) = omega arith in
-    record { place = refl; is = c .before .loop .inv .1 ∙ ap (paste (a .out .now) (a .at) (a .x .now)) e ∙ written-paste (a .out .now) (a .at) (a .x .now) }
+    record { place = omega arith; is = c .before .loop .inv .1 ∙ ap (paste (a .out .now) 0 (a .x .now)) e ∙ written-paste (a .out .now) 0 (a .x .now) }
 
 pub put-spec : {M : Type 1} → statement M
 put-spec =
@@ -63,11 +55,9 @@ put-spec =
     μ-loop
     loop-holds
     shared-slice-read-out
-    add-out
     slice-write-out
     add-j
     loop-less
     loop-again
-    add-result
     same-length
     returns)

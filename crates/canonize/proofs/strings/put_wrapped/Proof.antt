@@ -1,47 +1,60 @@
--- `canonize::strings::put_wrapped` meets its contract: three strings, one after another. Assumes nothing.
+-- `canonize::strings::put_wrapped` meets its contract. Assumes nothing.
 use borrow.Author.Needs.{needs}
-use mathlib.Core.Path.{_≡_}
-use mathlib.Core.List.{_∷_}
+use mathlib.Core.Logic.{inl, inr, ⊎-elim}
 use Prim.Native.Nat.{_+_, _≤_}
 use native.Mathlib.Omega.{arith}
-use lib.ListN.{length, length-set}
-use Rattle.canonize.specs.Strings.{wrap}
-use Rattle.canonize.specs.Buffers.{Wrote}
-use Rattle.canonize.proofs.Wrapping.{length-wrap}
-use Rattle.canonize.proofs.Writing.{wrote-byte, wrote-length, wrote-then}
+use lib.ListN.{length-set}
+use Rattle.canonize.proofs.Writing.{wrapped-length, wrapped-end, wrapped-wrote}
 use Rattle.canonize.proofs.strings.put_wrapped.Statement.{statement}
 use Rattle.canonize.proofs.strings.put_wrapped.Tie as tie
 
-slice-write-out : tie.Need-slice-write-out
-slice-write-out c = omega (arith, length-wrap (c .before .before .args .x .now))
+slice-write-slate : tie.Need-slice-write-slate
+slice-write-slate c = search needs
 
-add-put : tie.Need-add-put
-add-put c = search needs
+add-copy : tie.Need-add-copy
+add-copy c = search needs
 
-put-requires : tie.Need-put-requires
-put-requires c κs = simp length-set (omega (arith, length-wrap (c .before .before .before .args .x .now)))
+copy-requires : tie.Need-copy-requires
+copy-requires c κs =
+    let a = c .before .before .args in
+    let p = c .before .before .pre in (
+      ⊎-elim (λ (h : a .from + a .n ≤ a .place). inl (omega arith)) (λ (h : a .place + (a .n + 2) ≤ a .from). inr (omega arith)) (p .0),
+      simp length-set (p .1),
+      simp length-set (omega (arith, p .2)),
+    )
 
--- after the second string
-two : (c : tie.After-slice-known2) → Wrote (c .before .before .before .before .before .before .args .out .now) (c .before .before .before .before .before .before .args .at) (0 ∷ c .before .before .before .before .before .before .args .x .now) (c .before .before .put .result) (c .before .before .put .last .0) × (length (c .before .before .put .last .0) ≡ length (c .before .before .before .before .before .before .args .out .now))
-two c =
-    let a = c .before .before .before .before .before .before .args in
-    let h : a .at + (length (a .x .now) + 2) ≤ length (a .out .now) = omega (arith, length-wrap (a .x .now), c .before .before .before .before .before .before .pre) in
-    let w : Wrote (a .out .now) (a .at) (0 ∷ a .x .now) (c .before .before .put .result) (c .before .before .put .last .0) = wrote-then (wrote-byte (a .out .now) (a .at) 0 (omega arith)) (c .before .before .put .ensures) (omega arith) in
-    (w, wrote-length w (omega arith))
-
-slice-write-out-2 : tie.Need-slice-write-out-2
-slice-write-out-2 c = omega (arith, length-wrap (c .before .before .before .before .before .before .args .x .now), c .before .before .before .before .before .before .pre, two c .0 .place, two c .1)
+slice-write-slate-2 : tie.Need-slice-write-slate-2
+slice-write-slate-2 c =
+    let a = c .before .before .before .before .before .args in
+    let p = c .before .before .before .before .before .pre in
+    wrapped-end (a .slate .now) (a .from) (a .n) (a .place) (p .0) (p .1) (p .2) (c .before .before .copy .ensures)
 
 add-result : tie.Need-add-result
-add-result c = omega (arith, length-wrap (c .before .before .before .before .before .before .args .x .now), c .before .before .before .before .before .before .pre, two c .0 .place, two c .1)
+add-result c =
+    let a = c .before .before .before .before .before .args in
+    let p = c .before .before .before .before .before .pre in
+    omega (arith, slice-write-slate-2 c, wrapped-length (a .slate .now) (a .from) (a .n) (a .place) (p .0) (p .1) (p .2) (c .before .before .copy .ensures))
 
 same-length : tie.Need-same-length
-same-length c = simp length-set (two c .1)
+same-length c =
+    let a = c .before .before .before .before .before .args in
+    let p = c .before .before .before .before .before .pre in
+    simp length-set (wrapped-length (a .slate .now) (a .from) (a .n) (a .place) (p .0) (p .1) (p .2) (c .before .before .copy .ensures))
 
 returns : tie.Need-returns
-unfolding wrap
 returns c =
-    wrote-then (two c .0) (wrote-byte (c .before .before .put .last .0) (c .before .before .put .result) 255 (slice-write-out-2 c)) (omega (arith, length-wrap (c .before .before .before .before .before .before .args .x .now), c .before .before .before .before .before .before .pre))
+    let a = c .before .before .before .before .before .args in
+    let p = c .before .before .before .before .before .pre in
+    wrapped-wrote (a .slate .now) (a .from) (a .n) (a .place) (p .0) (p .1) (p .2) (c .before .before .copy .ensures)
 
 pub put-wrapped-spec : {M : Type 1} → statement M
-put-wrapped-spec = tie.close (tie.spec slice-write-out add-put put-requires slice-write-out-2 add-result same-length returns)
+put-wrapped-spec =
+    tie.close
+    (tie.spec
+    slice-write-slate
+    add-copy
+    copy-requires
+    slice-write-slate-2
+    add-result
+    same-length
+    returns)

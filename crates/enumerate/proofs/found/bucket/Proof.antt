@@ -3,7 +3,7 @@ use borrow.Author.Needs.{needs}
 use mathlib.Core.Path.{refl}
 use native.Mathlib.Nat.{mod-lt}
 use native.Mathlib.Omega.{arith}
-use Rattle.enumerate.specs.Found.{bucketOf}
+use Rattle.enumerate.specs.Inner.Bucketed.{bucketOf}
 use Rattle.enumerate.proofs.Chains.{bucket-lt}
 use Rattle.enumerate.proofs.found.bucket.Statement.{statement}
 use Rattle.enumerate.proofs.found.bucket.Tie as tie

@@ -10,8 +10,8 @@ use Rattle.bitset.specs.Bits.{Sub, diff, low, size, members}
 use Rattle.bitset.proofs.Laws.{members-turn, sub-trans}
 use Rattle.bitset.proofs.Members.{diff-sub}
 use Rattle.molecule.specs.Touch.{around}
-use Rattle.enumerate.specs.Found.{Found, Kept}
-use Rattle.enumerate.proofs.Chains.{kept-same, kept-then}
+use Rattle.enumerate.specs.Inner.Bucketed.{Bucketed, Spared}
+use Rattle.enumerate.proofs.Chains.{spared-same, spared-then}
 use Rattle.enumerate.proofs.Extending.{with-bond, Extending, extending-start, extending-next, extending-over, extending-done}
 use Rattle.enumerate.proofs.found.extend.Statement.{statement}
 use Rattle.enumerate.proofs.found.extend.Tie as tie
@@ -21,23 +21,40 @@ near touch i = getD touch i 0
 
 abbrev Inv-loop : tie.InvT-loop
 Inv-loop touch parts₀ p count parent rest₀ k₀ parts rest k =
-    (rest < 2 ^ 64) × Sub rest (around (near touch) parent) × Kept parts₀ parts p
-    × ((l : List ℕ) → Found parts₀ p l → length l ≡ count → Extending (near touch) parent l parts p rest k)
+    (rest < 2 ^ 64) × Sub rest (around (near touch) parent) × Spared parts₀ parts p
+    × ((l : List ℕ) → Bucketed parts₀ p l → length l ≡ count → Extending (near touch) parent l parts p rest k)
 
 abbrev μ-loop : tie.MeasureT-loop
 μ-loop touch parts₀ p count parent rest₀ k₀ parts rest k = size rest
 
--- the bond, and the parent with it
-bond : (c : tie.After-insert Inv-loop μ-loop) → members (c .before .before .before .before .before .loop .rest) ≡ c .before .before .before .lowest .result ∷ members (c .before .before .without-lowest .result)
-bond c =
-    let l = c .before .before .before .before .before .loop in
-    members-turn (l .rest) (c .before .before .before .lowest .result) (c .before .before .without-lowest .result) (omega (arith, c .before .before .before .before .loop-test .taken)) (l .inv .0) (c .before .before .before .lowest .ensures) (c .before .before .without-lowest .ensures)
+-- a turn of the loop
+abbrev entry : tie.In-loop Inv-loop μ-loop → tie.Start Inv-loop μ-loop
+entry c = c .before .before .before .before
 
-set-with : (c : tie.After-insert Inv-loop μ-loop) → c .insert .result ≡ c .before .before .before .before .before .before .before .before .args .parent + 2 ^ c .before .before .before .lowest .result
+abbrev touching : tie.In-loop Inv-loop μ-loop → ℕ → ℕ
+touching c = near (entry c .args .touch .now)
+
+-- the bond, and the parent with it
+abbrev turn : tie.After-insert Inv-loop μ-loop → tie.In-loop Inv-loop μ-loop
+turn c = c .before .before .before .before
+
+abbrev bond : tie.After-insert Inv-loop μ-loop → ℕ
+bond c = c .before .before .before .lowest .result
+
+abbrev rest : tie.After-insert Inv-loop μ-loop → ℕ
+rest c = c .before .before .without-lowest .result
+
+bond-first : (c : tie.After-insert Inv-loop μ-loop) → members (turn c .before .loop .rest) ≡ bond c ∷ members (rest c)
+bond-first c =
+    let l = turn c .before .loop in
+    members-turn (l .rest) (bond c) (rest c) (omega (arith, turn c .loop-test .taken)) (l .inv .0) (c .before .before .before .lowest .ensures)
+    (c .before .before .without-lowest .ensures)
+
+set-with : (c : tie.After-insert Inv-loop μ-loop) → c .insert .result ≡ entry (turn c) .args .parent + 2 ^ bond c
 set-with c =
-    let a = c .before .before .before .before .before .before .before .before .args in
-    let l = c .before .before .before .before .before .loop in
-    c .insert .ensures ∙ with-bond (near (a .touch .now)) (a .parent) (l .rest) (c .before .before .before .lowest .result) (l .inv .1) (c .before .before .before .lowest .ensures .member)
+    let d = turn c in
+    c .insert .ensures ∙ with-bond (touching d) (entry d .args .parent) (d .before .loop .rest) (bond c) (d .before .loop .inv .1)
+    (c .before .before .before .lowest .ensures .member)
 
 around-requires : tie.Need-around-requires Inv-loop μ-loop
 around-requires c κs = search needs
@@ -45,7 +62,12 @@ around-requires c κs = search needs
 loop-holds : tie.Need-loop-holds Inv-loop μ-loop
 loop-holds c =
     let a = c .before .before .args in
-    (search needs, rw (c .around .ensures) (and-self (around (near (a .touch .now)) (a .parent))), kept-same (a .parts .now) (a .p), λ l f e. rw (c .around .ensures) (extending-start (near (a .touch .now)) (a .parent) l (a .parts .now) (a .p) (a .count) f e))
+    let t = near (a .touch .now) in (
+      search needs,
+      rw (c .around .ensures) (and-self (around t (a .parent))),
+      spared-same (a .parts .now) (a .p),
+      λ l f e. rw (c .around .ensures) (extending-start t f e),
+    )
 
 lowest-requires : tie.Need-lowest-requires Inv-loop μ-loop
 lowest-requires c κs = omega arith
@@ -58,20 +80,23 @@ insert-requires c κs = c .before .before .lowest .ensures .within
 
 note-requires : tie.Need-note-requires Inv-loop μ-loop
 note-requires c κs =
-    let f = c .before .before .before .before .before .before .before .before .pre in
-    let w = c .before .before .before .before .before .loop .inv .3 (f .0) (f .1) (f .2) in
+    let d = turn c in
+    let f = entry d .pre in
+    let w = d .before .loop .inv .3 (f .0) (f .1) (f .2) in
     (w .list, w .found, w .count)
 
 same-length : tie.Need-same-length Inv-loop μ-loop
-same-length c = kept-then (c .before .before .before .before .before .before .before .before .before .loop .inv .2) (c .before .before .before .note .ensures .0) .long
+same-length c = let n = c .before .before .before in spared-then (turn (n .before) .before .loop .inv .2) (n .note .ensures .0) .long
 
 returns : tie.Need-returns Inv-loop μ-loop
 returns c =
-    let a = c .before .before .before .before .before .before .before .before .before .before .before .before .args in
-    let w = c .before .before .before .before .before .before .before .before .before .loop in
-    let i = c .before .before .before .before in (
-      kept-then (w .inv .2) (c .before .before .before .note .ensures .0),
-      λ l f e. extending-over (near (a .touch .now)) (a .parent) l (w .parts) (a .p) (w .rest) (w .k) (w .inv .3 l f e) (i .before .before .before .lowest .result) (i .before .before .without-lowest .result) (i .insert .result) (bond i) (set-with i) _ _ (c .before .before .before .note .ensures .1) (c .if1 .taken),
+    let n = c .before .before .before in
+    let i = n .before in
+    let d = turn i in
+    let w = d .before .loop in (
+      spared-then (w .inv .2) (n .note .ensures .0),
+      λ l f e. extending-over (touching d) (w .inv .3 l f e) (bond i) (rest i) _ (bond-first i) (set-with i) _ _
+          (n .note .ensures .1) (c .if1 .taken),
     )
 
 loop-less : tie.Need-loop-less Inv-loop μ-loop
@@ -79,13 +104,16 @@ loop-less c = omega (arith, c .before .before .before .before .before .before .w
 
 loop-again : tie.Need-loop-again Inv-loop μ-loop
 loop-again c =
-    let a = c .before .before .before .before .before .before .before .before .before .before .before .before .args in
-    let w = c .before .before .before .before .before .before .before .before .before .loop in
-    let i = c .before .before .before .before in (
-      omega (arith, i .before .before .without-lowest .ensures .below, w .inv .0),
-      rw (i .before .before .without-lowest .ensures .is) (sub-trans (diff (w .rest) (2 ^ low (w .rest))) (w .rest) (around (near (a .touch .now)) (a .parent)) (diff-sub (w .rest) (2 ^ low (w .rest))) (w .inv .1)),
-      kept-then (w .inv .2) (c .before .before .before .note .ensures .0),
-      λ l f e. extending-next (near (a .touch .now)) (a .parent) l (w .parts) (a .p) (w .rest) (w .k) (w .inv .3 l f e) (i .before .before .before .lowest .result) (i .before .before .without-lowest .result) (i .insert .result) (bond i) (set-with i) _ _ (c .before .before .before .note .ensures .1) (c .if1 .left),
+    let n = c .before .before .before in
+    let i = n .before in
+    let d = turn i in
+    let w = d .before .loop in
+    let e = i .before .before .without-lowest .ensures in
+    let low-one = 2 ^ low (w .rest) in (
+      omega (arith, e .below, w .inv .0),
+      rw (e .is) (sub-trans (diff (w .rest) low-one) (w .rest) (around (touching d) (entry d .args .parent)) (diff-sub (w .rest) low-one) (w .inv .1)),
+      spared-then (w .inv .2) (n .note .ensures .0),
+      λ l f q. extending-next (touching d) (w .inv .3 l f q) (bond i) (rest i) _ (bond-first i) (set-with i) _ _ (n .note .ensures .1) (c .if1 .left),
     )
 
 same-length-2 : tie.Need-same-length-2 Inv-loop μ-loop
@@ -93,9 +121,8 @@ same-length-2 c = c .before .loop .inv .2 .long
 
 returns-2 : tie.Need-returns-2 Inv-loop μ-loop
 returns-2 c =
-    let a = c .before .before .before .before .args in
     let w = c .before .loop in
-    (w .inv .2, λ l f e. extending-done (near (a .touch .now)) (a .parent) l (w .parts) (a .p) (w .rest) (w .k) (w .inv .3 l f e) (c .loop-test .left))
+    (w .inv .2, λ l f e. extending-done (near (c .before .before .before .before .args .touch .now)) (w .inv .3 l f e) (c .loop-test .left))
 
 pub extend-spec : {M : Type 1} → statement M
 extend-spec =

@@ -4,24 +4,34 @@ use mathlib.Core.List.{List}
 use Prim.Native.Nat.{ℕ, _+_, _-_, _*_, _<_}
 use native.Mathlib.Omega.{arith}
 use lib.ListN.{length}
-use Rattle.enumerate.specs.Found.{Found}
+use Rattle.enumerate.specs.Inner.Bucketed.{Bucketed}
 use Rattle.enumerate.proofs.Chains.{Walking, walking-start, walking-within, walking-hit, walking-next, walking-less, walking-none}
 use Rattle.enumerate.proofs.found.known.Statement.{statement}
 use Rattle.enumerate.proofs.found.known.Tie as tie
 
 abbrev Inv-loop : tie.InvT-loop
-Inv-loop parts p x k₀ k = (l : List ℕ) → Found parts p l → Walking l p x k
+Inv-loop parts p x k₀ k = (l : List ℕ) → Bucketed parts p l → Walking l p x k
 
 abbrev μ-loop : tie.MeasureT-loop
 μ-loop parts p x k₀ k = k
 
+-- a turn of the loop
+abbrev entry : tie.In-loop Inv-loop μ-loop → tie.Start Inv-loop μ-loop
+entry c = c .before .before .before .before .before
+
 -- the next index is that of a candidate
-within : (c : tie.In-loop Inv-loop μ-loop) → c .before .loop .k - 1 < c .before .before .before .before .before .args .p
+within : (c : tie.In-loop Inv-loop μ-loop) → c .before .loop .k - 1 < entry c .args .p
 within c =
-    let start = c .before .before .before .before .before in
-    let f = start .pre in
-    let k = c .before .loop .k in
-    omega (arith, f .1 .fits, walking-within (f .0) (start .args .p) (start .args .x) k (c .before .loop .inv (f .0) (f .1)) (c .loop-test .taken))
+    let s = entry c in
+    let f = s .pre in
+    let w = c .before .loop in
+    omega (arith, f .1 .listed .fits, walking-within (f .0) (s .args .p) (s .args .x) (w .k) (w .inv (f .0) (f .1)) (c .loop-test .taken))
+
+set-in : (c : tie.In-loop Inv-loop μ-loop) → entry c .args .p + (c .before .loop .k - 1) < length (entry c .args .parts .now)
+set-in c = omega (arith, within c, entry c .pre .1 .wide)
+
+link-in : (c : tie.In-loop Inv-loop μ-loop) → 2 * entry c .args .p + (c .before .loop .k - 1) < length (entry c .args .parts .now)
+link-in c = omega (arith, within c, entry c .pre .1 .wide)
 
 mul-k : tie.Need-mul-k Inv-loop μ-loop
 mul-k c = omega (arith, c .before .pre .1 .wide)
@@ -49,48 +59,47 @@ sub-i : tie.Need-sub-i Inv-loop μ-loop
 sub-i c = omega arith
 
 add-if1 : tie.Need-add-if1 Inv-loop μ-loop
-add-if1 c = omega (arith, within c, c .before .before .before .before .before .pre .1 .wide)
+add-if1 c = omega (arith, set-in c, entry c .good .0 .1)
 
 mul-if1 : tie.Need-mul-if1 Inv-loop μ-loop
-mul-if1 c =
-    let start = c .before .before .before .before .before in
-    scaled-fits (start .args .p + (c .before .loop .k - 1)) (length (start .args .parts .now)) 8 (omega (arith, within c, start .pre .1 .wide)) (start .good .0 .1)
+mul-if1 c = scaled-fits (entry c .args .p + (c .before .loop .k - 1)) (length (entry c .args .parts .now)) 8 (set-in c) (entry c .good .0 .1)
 
 shared-slice-read-if1 : tie.Need-shared-slice-read-if1 Inv-loop μ-loop
-shared-slice-read-if1 c = omega (arith, within (c .before), c .before .before .before .before .before .before .pre .1 .wide)
+shared-slice-read-if1 c = set-in (c .before)
 
 returns : tie.Need-returns Inv-loop μ-loop
 returns c =
-    let a = c .before .before .before .before .before .before .before .args in
-    let w = c .before .before .before .loop in
-    λ l f. walking-hit (a .parts .now) (a .p) l f (a .x) (w .k) (w .inv l f) (c .before .before .loop-test .taken) (c .if1 .taken)
+    let d = c .before .before in
+    let a = entry d .args in
+    let w = d .before .loop in
+    λ l f. walking-hit (a .parts .now) (a .p) l f (a .x) (w .k) (w .inv l f) (d .loop-test .taken) (c .if1 .taken)
 
 mul-k-3 : tie.Need-mul-k-3 Inv-loop μ-loop
-mul-k-3 c = omega (arith, c .before .before .before .before .before .before .before .pre .1 .wide)
+mul-k-3 c = let d = c .before .before in omega (arith, link-in d, entry d .good .0 .1)
 
 add-k-2 : tie.Need-add-k-2 Inv-loop μ-loop
-add-k-2 c = omega (arith, within (c .before .before), c .before .before .before .before .before .before .before .pre .1 .wide)
+add-k-2 c = let d = c .before .before in omega (arith, link-in d, entry d .good .0 .1)
 
 mul-k-4 : tie.Need-mul-k-4 Inv-loop μ-loop
-mul-k-4 c =
-    let start = c .before .before .before .before .before .before .before in
-    scaled-fits (2 * start .args .p + (c .before .before .before .loop .k - 1)) (length (start .args .parts .now)) 8 (omega (arith, within (c .before .before), start .pre .1 .wide)) (start .good .0 .1)
+mul-k-4 c = let d = c .before .before in scaled-fits (2 * entry d .args .p + (d .before .loop .k - 1)) (length (entry d .args .parts .now)) 8 (link-in d)
+    (entry d .good .0 .1)
 
 shared-slice-read-k-2 : tie.Need-shared-slice-read-k-2 Inv-loop μ-loop
-shared-slice-read-k-2 c = omega (arith, within (c .before .before .before), c .before .before .before .before .before .before .before .before .pre .1 .wide)
+shared-slice-read-k-2 c = link-in (c .before .before .before)
 
 loop-less : tie.Need-loop-less Inv-loop μ-loop
 loop-less c =
-    let start = c .before .before .before .before .before .before .before .before in
-    let f = start .pre in
-    let w = c .before .before .before .before .loop in
-    walking-less (start .args .parts .now) (start .args .p) (f .0) (f .1) (start .args .x) (w .k) (w .inv (f .0) (f .1)) (c .before .before .before .loop-test .taken)
+    let d = c .before .before .before in
+    let s = entry d in
+    let w = d .before .loop in
+    walking-less (s .args .parts .now) (s .args .p) (s .pre .0) (s .pre .1) (s .args .x) (w .k) (w .inv (s .pre .0) (s .pre .1)) (d .loop-test .taken)
 
 loop-again : tie.Need-loop-again Inv-loop μ-loop
 loop-again c =
-    let a = c .before .before .before .before .before .before .before .before .args in
-    let w = c .before .before .before .before .loop in
-    λ l f. walking-next (a .parts .now) (a .p) l f (a .x) (w .k) (w .inv l f) (c .before .before .before .loop-test .taken) (c .before .if1 .left)
+    let d = c .before .before .before in
+    let a = entry d .args in
+    let w = d .before .loop in
+    λ l f. walking-next (a .parts .now) (a .p) l f (a .x) (w .k) (w .inv l f) (d .loop-test .taken) (c .before .if1 .left)
 
 returns-2 : tie.Need-returns-2 Inv-loop μ-loop
 returns-2 c =

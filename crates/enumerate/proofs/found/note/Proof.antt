@@ -3,7 +3,7 @@ use borrow.Author.Needs.{needs}
 use mathlib.Core.Path.{sym, _∙_}
 use native.Mathlib.Omega.{arith}
 use lib.ListN.{length-set}
-use Rattle.enumerate.proofs.Chains.{kept-same, kept-put, counted-old, counted-new, counted-over}
+use Rattle.enumerate.proofs.Chains.{spared-same, spared-put, collected-old, collected-new, collected-over}
 use Rattle.enumerate.proofs.found.note.Statement.{statement}
 use Rattle.enumerate.proofs.found.note.Tie as tie
 
@@ -15,8 +15,11 @@ same-length c = search needs
 
 returns : tie.Need-returns
 returns c =
-    let a = c .before .before .before .before .args in
-    (kept-same (a .parts .now) (a .p), λ l f e. counted-old (a .parts .now) (a .p) l f (a .count) (a .x) e (sym (c .if1 .taken) ∙ c .before .known .ensures l f))
+    let a = c .before .before .before .before .args in (
+      spared-same (a .parts .now) (a .p),
+      λ l f e. collected-old (a .parts .now) (a .p) l f (a .count) (a .x) e
+          (sym (c .if1 .taken) ∙ c .before .known .ensures l f),
+    )
 
 bucket-requires : tie.Need-bucket-requires
 bucket-requires c κs = search needs
@@ -80,8 +83,9 @@ returns-2 c =
     let a = c .before .before .before .before .before .before .before .args in
     let h = c .before .bucket .result in
     let room = c .before .before .if2 .taken in (
-      kept-put (a .parts .now) (a .p) (a .count) (a .x) h room (c .before .bucket .ensures .1),
-      λ l f e. counted-new (a .parts .now) (a .p) l f (a .count) (a .x) e (sym (c .before .before .before .if1 .left) ∙ c .before .before .before .before .known .ensures l f) room h (c .before .bucket .ensures .0),
+      spared-put (a .parts .now) (a .p) (a .count) (a .x) h room (c .before .bucket .ensures .1),
+      λ l f e. collected-new (a .parts .now) (a .p) l f (a .count) (a .x) e
+          (sym (c .before .before .before .if1 .left) ∙ c .before .before .before .before .known .ensures l f) room h (c .before .bucket .ensures .0),
     )
 
 add-result-2 : tie.Need-add-result-2
@@ -92,8 +96,11 @@ same-length-3 c = search needs
 
 returns-3 : tie.Need-returns-3
 returns-3 c =
-    let a = c .before .before .before .before .before .args in
-    (kept-same (a .parts .now) (a .p), λ l f e. counted-over (a .parts .now) (a .p) l f (a .count) (a .x) e (sym (c .before .if1 .left) ∙ c .before .before .known .ensures l f) (c .if2 .left))
+    let a = c .before .before .before .before .before .args in (
+      spared-same (a .parts .now) (a .p),
+      λ l f e. collected-over (a .parts .now) (a .p) l f (a .count) (a .x) e
+          (sym (c .before .if1 .left) ∙ c .before .before .known .ensures l f) (c .if2 .left),
+    )
 
 pub note-spec : {M : Type 1} → statement M
 note-spec =

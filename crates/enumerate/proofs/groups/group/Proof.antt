@@ -1,147 +1,140 @@
 -- `enumerate::groups::group` meets its contract: the groups so far, with the candidates left placed one by one, are all. Assumes nothing.
 use borrow.Author.Needs.{needs, scaled-fits}
-use mathlib.Core.Path.{_≡_, refl, sym, _∙_}
+use mathlib.Core.Path.{_≡_, refl, _∙_}
 use mathlib.Core.List.{List}
-use Prim.Native.Nat.{ℕ, _+_, _-_, _≤_, _<_}
+use Prim.Native.Nat.{ℕ, _+_, _*_, _-_, _≤_, _<_}
 use native.Mathlib.Omega.{arith}
-use lib.ListN.{length, getD, take, drop}
-use Rattle.canonize.specs.Label.{label}
-use Rattle.canonize.specs.Buffers.{Slots}
-use Rattle.canonize.proofs.Laws.{label-fits}
-use Rattle.canonize.proofs.Writing.{wrote-read}
-use Rattle.enumerate.specs.Grouped.{Ready, Around, Hints}
-use Rattle.enumerate.proofs.Grouping.{around-same, around-then, ready-around, Grouping, grouping-start, grouping-own, grouping-connected, grouping-placing, grouping-next, grouping-done}
+use lib.ListN.{length}
+use Rattle.canonize.specs.Inner.Slate.{Slate}
+use Rattle.enumerate.specs.Inner.Grouped.{Groupable, Around, Hints}
+use Rattle.enumerate.proofs.Grouping.{around-same, around-then, groupable-around, forgotten, Grouping, grouping-start, grouping-own, grouping-connected, grouping-placing, grouping-next, grouping-done}
 use Rattle.enumerate.proofs.groups.group.Statement.{statement}
 use Rattle.enumerate.proofs.groups.group.Tie as tie
 
 abbrev Inv-loop : tie.InvT-loop
-Inv-loop bytes at parts₀ p count arena₀ lengths₀ desk₀ own₀ other₀ m g₀ i₀ parts arena lengths desk own other g i =
-    (i ≤ count) × Slots arena lengths × (length desk ≡ length desk₀) × (length own ≡ length own₀) × (length other ≡ length other₀) × Around parts₀ parts p × Hints parts p g m
-    × ((l : List ℕ) → Ready bytes parts₀ p l → length l ≡ count → Grouping bytes l parts p i g)
+Inv-loop bytes at parts₀ p count slate₀ m g₀ i₀ parts slate g i =
+    (i ≤ count) × Slate slate × (length slate ≡ length slate₀) × Around parts₀ parts p × Hints parts p g m
+    × ((l : List ℕ) → Groupable bytes parts₀ p l → length l ≡ count → Grouping bytes l parts p i g)
 
 abbrev μ-loop : tie.MeasureT-loop
-μ-loop bytes at parts₀ p count arena₀ lengths₀ desk₀ own₀ other₀ m g₀ i₀ parts arena lengths desk own other g i = count - i
+μ-loop bytes at parts₀ p count slate₀ m g₀ i₀ parts slate g i = count - i
 
--- where the loop is
-so-far : (c : tie.At-loop Inv-loop μ-loop) → Grouping (c .before .before .before .before .before .before .before .before .before .before .before .before .args .bytes .now) (c .before .before .before .before .before .before .before .before .before .before .before .before .pre .2 .0) (c .loop .parts) (c .before .before .before .before .before .before .before .before .before .before .before .before .args .p) (c .loop .i) (c .loop .g)
-so-far c = let q = c .before .before .before .before .before .before .before .before .before .before .before .before .pre .2 in c .loop .inv .7 (q .0) (ready-around (c .before .before .before .forget .ensures .0) (q .1)) (q .2)
+-- the hints are 0
+forgot : (c : tie.After-zero-part Inv-loop μ-loop) → let a = c .before .before .before .before .before .args in
+    Around (a .parts .now) (c .zero-part .last .0) (a .p) × Hints (c .zero-part .last .0) (a .p) 0 (3 * a .count)
+forgot c =
+    let s = c .before .before .before .before .before in
+    let q = s .pre .3 in
+    forgotten (s .args .parts .now) _ (s .args .p) (3 * s .args .count) (q .1 .wide) (omega (arith, q .1 .found .listed .fits, q .2)) (c .zero-part .ensures)
 
-in-list : (c : tie.In-loop Inv-loop μ-loop) → c .before .loop .i < length (c .before .before .before .before .before .before .before .before .before .before .before .before .before .pre .2 .0)
-in-list c = omega (arith, c .loop-test .taken, c .before .before .before .before .before .before .before .before .before .before .before .before .before .pre .2 .2)
+-- a turn of the loop
+abbrev cleared : tie.In-loop Inv-loop μ-loop → tie.After-zero-part Inv-loop μ-loop
+cleared c = c .before .before .before .before
 
-in-parts : (c : tie.In-loop Inv-loop μ-loop) → c .before .before .before .before .before .before .before .before .before .before .before .before .before .args .p + c .before .loop .i < length (c .before .before .before .before .before .before .before .before .before .before .before .before .before .args .parts .now)
-in-parts c = omega (arith, in-list c, c .before .before .before .before .before .before .before .before .before .before .before .before .before .pre .2 .1 .found .fits, c .before .before .before .before .before .before .before .before .before .before .before .before .before .pre .2 .1 .wide)
+abbrev entry : tie.In-loop Inv-loop μ-loop → tie.Start Inv-loop μ-loop
+entry c = cleared c .before .before .before .before .before
 
--- the label of candidate i is in the buffer
-fits : (c : tie.After-label-into Inv-loop μ-loop) → 0 + length (label (c .before .before .before .before .before .before .before .before .before .before .before .before .before .before .before .before .before .before .before .args .bytes .now) (getD (c .before .before .before .before .before .before .before .loop .parts) (c .before .before .before .before .before .before .before .before .before .before .before .before .before .before .before .before .before .before .before .args .p + c .before .before .before .before .before .before .before .loop .i) 0)) ≤ length (c .before .before .before .before .before .before .before .loop .own)
-fits c =
-    let s = c .before .before .before .before .before .before .before .before .before .before .before .before .before .before .before .before .before .before .before in
-    let a = s .args in
-    let w = c .before .before .before .before .before .before .before .loop in
-    let h : w .i < length (s .pre .2 .0) = in-list (c .before .before .before .before .before .before) in
-    omega (arith, label-fits (a .bytes .now) (getD (w .parts) (a .p + w .i) 0) (s .pre .0) (grouping-own (a .bytes .now) (s .pre .2 .0) (a .p) (w .parts) (w .i) (w .g) (so-far (c .before .before .before .before .before .before .before)) h) (grouping-connected (a .bytes .now) (s .pre .2 .0) (a .p) (w .parts) (w .i) (w .g) (so-far (c .before .before .before .before .before .before .before)) h), s .pre .5, w .inv .3)
+so-far : (c : tie.In-loop Inv-loop μ-loop) → let a = entry c .args in let w = c .before .loop in Grouping (a .bytes .now) (entry c .pre .3 .0) (w .parts)
+    (a .p) (w .i) (w .g)
+so-far c = let q = entry c .pre .3 in c .before .loop .inv .5 (q .0) (groupable-around (forgot (cleared c) .0) (q .1)) (q .2)
 
-its : (c : tie.After-label-into Inv-loop μ-loop) → take (c .label-into .result - 0) (drop 0 (c .label-into .last .1 .1 .1 .1 .1 .1 .0)) ≡ label (c .before .before .before .before .before .before .before .before .before .before .before .before .before .before .before .before .before .before .before .args .bytes .now) (getD (c .before .before .before .before .before .before .before .loop .parts) (c .before .before .before .before .before .before .before .before .before .before .before .before .before .before .before .before .before .before .before .args .p + c .before .before .before .before .before .before .before .loop .i) 0)
-its c = wrote-read (c .label-into .ensures .0) (fits c)
+in-list : (c : tie.In-loop Inv-loop μ-loop) → c .before .loop .i < length (entry c .pre .3 .0)
+in-list c = omega (arith, c .loop-test .taken, entry c .pre .3 .2)
+
+in-parts : (c : tie.In-loop Inv-loop μ-loop) → entry c .args .p + c .before .loop .i < length (entry c .args .parts .now)
+in-parts c = let q = entry c .pre .3 .1 in omega (arith, in-list c, q .found .listed .fits, q .wide)
+
+-- the end of it
+abbrev turn : tie.After-slice-known7 Inv-loop μ-loop → tie.In-loop Inv-loop μ-loop
+turn c = c .before .before .before .before .before .before .before .before .before .before .before .before
 
 mul-m : tie.Need-mul-m Inv-loop μ-loop
-mul-m c = let q = c .before .before .before .before .before .before .before .pre .2 in omega (arith, q .1 .found .fits, q .1 .wide, q .2, c .before .before .before .before .before .before .before .good .1 .1 .0 .1)
+mul-m c = let s = c .before .before .before in let q = s .pre .3 in omega (arith, q .1 .found .listed .fits, q .1 .wide, q .2, s .good .1 .1 .0 .1)
 
-forget-requires : tie.Need-forget-requires Inv-loop μ-loop
-forget-requires c κs = let q = c .before .before .before .before .before .before .before .before .pre .2 in (q .1 .wide, omega (arith, q .1 .found .fits, q .2))
+mul-zero-part : tie.Need-mul-zero-part Inv-loop μ-loop
+mul-zero-part c = search needs
+
+mul-zero-part-2 : tie.Need-mul-zero-part-2 Inv-loop μ-loop
+mul-zero-part-2 c = search needs
+
+add-zero-part : tie.Need-add-zero-part Inv-loop μ-loop
+add-zero-part c = search needs
+
+zero-part-requires : tie.Need-zero-part-requires Inv-loop μ-loop
+zero-part-requires c κs = let q = c .before .before .before .before .pre .3 in (omega arith, omega (arith, q .1 .wide, q .1 .found .listed .fits, q .2))
 
 loop-holds : tie.Need-loop-holds Inv-loop μ-loop
 loop-holds c =
-    let s = c .before .before .before .before .before .before .before .before .before .before .before in
-    let a = s .args in
-    let k = c .before .before .forget in
-    (omega arith, s .pre .3, refl, refl, refl, around-same (k .last .0) (a .p), k .ensures .1, λ l w e. grouping-start (a .bytes .now) l (a .p) (k .last .0) w)
+    let b = c .before .before in
+    let s = b .before .before .before .before .before in
+    (omega arith, s .pre .2, refl, around-same (b .zero-part .last .0) (s .args .p), forgot b .1, λ l w e. grouping-start w)
 
-add-label-into : tie.Need-add-label-into Inv-loop μ-loop
-add-label-into c = omega (arith, in-parts c, c .before .before .before .before .before .before .before .before .before .before .before .before .before .good .1 .1 .0 .1)
+add-keep : tie.Need-add-keep Inv-loop μ-loop
+add-keep c = omega (arith, in-parts c, entry c .good .1 .1 .0 .1)
 
-mul-label-into : tie.Need-mul-label-into Inv-loop μ-loop
-mul-label-into c =
-    let s = c .before .before .before .before .before .before .before .before .before .before .before .before .before in
-    scaled-fits (s .args .p + c .before .loop .i) (length (s .args .parts .now)) 8 (in-parts c) (s .good .1 .1 .0 .1)
+mul-keep : tie.Need-mul-keep Inv-loop μ-loop
+mul-keep c = scaled-fits (entry c .args .p + c .before .loop .i) (length (entry c .args .parts .now)) 8 (in-parts c) (entry c .good .1 .1 .0 .1)
 
-slice-read-label-into : tie.Need-slice-read-label-into Inv-loop μ-loop
-slice-read-label-into c = omega (arith, in-parts (c .before), c .before .before .loop .inv .5 .long, c .before .before .before .before .before .forget .ensures .0 .long)
+slice-read-keep : tie.Need-slice-read-keep Inv-loop μ-loop
+slice-read-keep c = let d = c .before in omega (arith, in-parts d, d .before .loop .inv .3 .long, forgot (cleared d) .0 .long)
 
-label-into-requires : tie.Need-label-into-requires Inv-loop μ-loop
-label-into-requires c κs =
-    let p = c .before .before .before .before .before .before .before .before .before .before .before .before .before .before .before .before .before .before .pre in
-    let a = c .before .before .before .before .before .before .before .before .before .before .before .before .before .before .before .before .before .before .args in
-    let w = c .before .before .before .before .before .before .loop in
-    let h = in-list (c .before .before .before .before .before) in
-    (p .0, p .1, grouping-own (a .bytes .now) (p .2 .0) (a .p) (w .parts) (w .i) (w .g) (so-far (c .before .before .before .before .before .before)) h, grouping-connected (a .bytes .now) (p .2 .0) (a .p) (w .parts) (w .i) (w .g) (so-far (c .before .before .before .before .before .before)) h, w .inv .1, omega (arith, w .inv .2, p .4), omega (arith, w .inv .3, p .5))
-
-sub-place : tie.Need-sub-place Inv-loop μ-loop
-sub-place c = search needs
-
-part-place-start : tie.Need-part-place-start Inv-loop μ-loop
-part-place-start c = search needs
-
-part-place-end : tie.Need-part-place-end Inv-loop μ-loop
-part-place-end c = omega (arith, c .before .before .before .before .before .before .before .before .before .before .label-into .ensures .0 .place, fits (c .before .before .before .before .before .before .before .before .before .before), c .before .before .before .before .before .before .before .before .before .before .label-into .kept .1 .1 .1 .1 .1 .1 .0)
+keep-requires : tie.Need-keep-requires Inv-loop μ-loop
+keep-requires c κs =
+    let d = c .before .before in
+    let p = entry d .pre in (
+      record { formed = p .0; touch = p .1; own = grouping-own (so-far d) (in-list d); connected = grouping-connected (so-far d) (in-list d) },
+      d .before .loop .inv .1,
+    )
 
 place-requires : tie.Need-place-requires Inv-loop μ-loop
 place-requires c κs =
-    let p = c .before .before .before .before .before .before .before .before .before .before .before .before .before .before .before .before .before .before .before .before .before .before .before .before .before .before .before .before .before .before .before .before .before .before .pre in
-    let a = c .before .before .before .before .before .before .before .before .before .before .before .before .before .before .before .before .before .before .before .before .before .before .before .before .before .before .before .before .before .before .before .before .before .before .args in
-    let w = c .before .before .before .before .before .before .before .before .before .before .before .before .before .before .before .before .before .before .before .before .before .before .loop in
-    let k = c .before .before .before .before .before .before .before .before .before .before .before .before .before .before .before .label-into in
-    (p .0, p .1, (p .2 .0, so-far (c .before .before .before .before .before .before .before .before .before .before .before .before .before .before .before .before .before .before .before .before .before .before) .list, grouping-placing (a .bytes .now) (p .2 .0) (a .p) (w .parts) (w .i) (w .g) (so-far (c .before .before .before .before .before .before .before .before .before .before .before .before .before .before .before .before .before .before .before .before .before .before)) (in-list (c .before .before .before .before .before .before .before .before .before .before .before .before .before .before .before .before .before .before .before .before .before)) _ (its (c .before .before .before .before .before .before .before .before .before .before .before .before .before .before .before))), k .ensures .1, omega (arith, k .kept .1 .1 .1 .1 .1 .0, w .inv .2, p .4), omega (arith, w .inv .4, p .6), omega (arith, in-list (c .before .before .before .before .before .before .before .before .before .before .before .before .before .before .before .before .before .before .before .before .before), p .2 .2), omega (arith, p .2 .1 .found .fits, p .2 .2), w .inv .6)
+    let k = c .before .before .before .before .keep .ensures in
+    let d = c .before .before .before .before .before .before .before in
+    let p = entry d .pre in (
+      p .0,
+      p .1,
+      k .serves,
+      (p .3 .0, so-far d .list, grouping-placing (so-far d) (in-list d) _ (k .label)),
+      omega (arith, in-list d, p .3 .2),
+      omega (arith, p .3 .1 .found .listed .fits, p .3 .2),
+      d .before .loop .inv .4,
+    )
 
 add-i : tie.Need-add-i Inv-loop μ-loop
-add-i c = omega (arith, in-list (c .before .before .before .before .before .before .before .before .before .before .before .before .before .before .before .before .before .before .before .before .before .before .before .before .before .before .before .before .before .before .before .before), c .before .before .before .before .before .before .before .before .before .before .before .before .before .before .before .before .before .before .before .before .before .before .before .before .before .before .before .before .before .before .before .before .before .before .before .before .before .before .before .before .before .before .before .before .before .pre .2 .1 .found .fits, c .before .before .before .before .before .before .before .before .before .before .before .before .before .before .before .before .before .before .before .before .before .before .before .before .before .before .before .before .before .before .before .before .before .before .before .before .before .before .before .before .before .before .before .before .before .pre .2 .1 .wide, c .before .before .before .before .before .before .before .before .before .before .before .before .before .before .before .before .before .before .before .before .before .before .before .before .before .before .before .before .before .before .before .before .before .before .before .before .before .before .before .before .before .before .before .before .before .good .1 .1 .0 .1)
+add-i c = let d = turn c in omega (arith, in-parts d, entry d .good .1 .1 .0 .1)
 
 loop-less : tie.Need-loop-less Inv-loop μ-loop
-loop-less c = omega (arith, c .before .before .before .before .before .before .before .before .before .before .before .before .before .before .before .before .before .before .before .before .before .before .before .before .before .before .before .before .before .before .before .before .loop-test .taken)
+loop-less c = omega (arith, turn c .loop-test .taken)
 
 loop-again : tie.Need-loop-again Inv-loop μ-loop
 loop-again c =
-    let a = c .before .before .before .before .before .before .before .before .before .before .before .before .before .before .before .before .before .before .before .before .before .before .before .before .before .before .before .before .before .before .before .before .before .before .before .before .before .before .before .before .before .before .before .before .before .args in
-    let w = c .before .before .before .before .before .before .before .before .before .before .before .before .before .before .before .before .before .before .before .before .before .before .before .before .before .before .before .before .before .before .before .before .before .loop in
-    let k = c .before .before .before .before .before .before .before .before .before .before .before .before .before .before .before .before .before .before .before .before .before .before .before .before .before .before .label-into in
-    let q = c .before .before .before .before .before .before .before .before .before .before .place in (
-      omega (arith, c .before .before .before .before .before .before .before .before .before .before .before .before .before .before .before .before .before .before .before .before .before .before .before .before .before .before .before .before .before .before .before .before .loop-test .taken),
+    let q = c .before .before .before .before .place in
+    let k = c .before .before .before .before .before .before .before .before .before .keep in
+    let d = turn c in
+    let w = d .before .loop in (
+      omega (arith, d .loop-test .taken),
       q .ensures .1,
-      q .kept .1 .1 .1 .1 .1 .1 .1 .1 .1 .1 .0 ∙ k .kept .1 .1 .1 .1 .1 .0 ∙ w .inv .2,
-      k .kept .1 .1 .1 .1 .1 .1 .0 ∙ w .inv .3,
-      q .kept .1 .1 .1 .1 .1 .1 .1 .1 .1 .1 .1 .0 ∙ w .inv .4,
-      around-then (w .inv .5) (q .ensures .0 .0),
+      q .kept .1 .1 .1 .1 .1 .1 .1 .0 ∙ k .kept .1 .1 .1 .0 ∙ w .inv .2,
+      around-then (w .inv .3) (q .ensures .0 .0),
       q .ensures .0 .1,
       λ l r e.
-          let v = w .inv .7 l r e in
-          let h : w .i < length l = omega (arith, c .before .before .before .before .before .before .before .before .before .before .before .before .before .before .before .before .before .before .before .before .before .before .before .before .before .before .before .before .before .before .before .before .loop-test .taken, e) in
-          grouping-next (a .bytes .now) l (a .p) (w .parts) (w .i) (w .g) v h _ (its (c .before .before .before .before .before .before .before .before .before .before .before .before .before .before .before .before .before .before .before .before .before .before .before .before .before .before)) _ _ (q .ensures .0 .0) (q .ensures .0 .2 l (v .list) (grouping-placing (a .bytes .now) l (a .p) (w .parts) (w .i) (w .g) v h _ (its (c .before .before .before .before .before .before .before .before .before .before .before .before .before .before .before .before .before .before .before .before .before .before .before .before .before .before)))),
+          let v = w .inv .5 l r e in
+          let h : w .i < length l = omega (arith, d .loop-test .taken, e) in
+          grouping-next v h _ (k .ensures .label) _ _ (q .ensures .0 .0) (q .ensures .0 .2 l (v .list) (grouping-placing v h _ (k .ensures .label))),
     )
 
 same-length : tie.Need-same-length Inv-loop μ-loop
-same-length c = c .before .loop .inv .5 .long ∙ c .before .before .before .before .forget .ensures .0 .long
+same-length c = c .before .loop .inv .3 .long ∙ forgot (c .before .before .before .before) .0 .long
 
 same-length-2 : tie.Need-same-length-2 Inv-loop μ-loop
-same-length-2 c = c .before .loop .inv .1 .wide ∙ sym (c .before .before .before .before .before .before .before .before .before .before .before .before .before .pre .3 .wide)
-
-same-length-3 : tie.Need-same-length-3 Inv-loop μ-loop
-same-length-3 c = c .before .loop .inv .1 .many ∙ sym (c .before .before .before .before .before .before .before .before .before .before .before .before .before .pre .3 .many)
-
-same-length-4 : tie.Need-same-length-4 Inv-loop μ-loop
-same-length-4 c = c .before .loop .inv .2
-
-same-length-5 : tie.Need-same-length-5 Inv-loop μ-loop
-same-length-5 c = c .before .loop .inv .3
-
-same-length-6 : tie.Need-same-length-6 Inv-loop μ-loop
-same-length-6 c = c .before .loop .inv .4
+same-length-2 c = c .before .loop .inv .2
 
 returns : tie.Need-returns Inv-loop μ-loop
 returns c =
-    let a = c .before .before .before .before .before .before .before .before .before .before .before .before .before .args in
     let w = c .before .loop in
-    let n : w .i ≡ a .count = omega (arith, c .loop-test .left, w .inv .0) in
-    ((around-then (c .before .before .before .before .forget .ensures .0) (w .inv .5), λ l r e. grouping-done (a .bytes .now) l (a .p) (w .parts) (w .i) (w .g) (w .inv .7 l (ready-around (c .before .before .before .before .forget .ensures .0) r) e) (a .count) n e), w .inv .1)
+    let o = forgot (c .before .before .before .before) .0 in
+    let n : w .i ≡ c .before .before .before .before .before .before .before .before .before .args .count = omega (arith, c .loop-test .left, w .inv .0) in
+    ((around-then o (w .inv .3), λ l r e. grouping-done (w .inv .5 l (groupable-around o r) e) _ n e), w .inv .1)
 
 pub group-spec : {M : Type 1} → statement M
 group-spec =
@@ -150,23 +143,19 @@ group-spec =
     Inv-loop
     μ-loop
     mul-m
-    forget-requires
+    mul-zero-part
+    mul-zero-part-2
+    add-zero-part
+    zero-part-requires
     loop-holds
-    add-label-into
-    mul-label-into
-    slice-read-label-into
-    label-into-requires
-    sub-place
-    part-place-start
-    part-place-end
+    add-keep
+    mul-keep
+    slice-read-keep
+    keep-requires
     place-requires
     add-i
     loop-less
     loop-again
     same-length
     same-length-2
-    same-length-3
-    same-length-4
-    same-length-5
-    same-length-6
     returns)

@@ -3,7 +3,7 @@ use borrow.Author.Needs.{needs}
 use mathlib.Core.Path.{refl}
 use native.Mathlib.Omega.{arith}
 use lib.ListN.{length-set}
-use Rattle.enumerate.specs.Grouped.{joined}
+use Rattle.enumerate.specs.Inner.Grouped.{joined}
 use Rattle.enumerate.proofs.groups.join.Statement.{statement}
 use Rattle.enumerate.proofs.groups.join.Tie as tie
 

@@ -1,22 +1,27 @@
 -- `enumerate::groups::leads` meets its contract. Assumes nothing.
 use borrow.Author.Needs.{needs, scaled-fits}
-use mathlib.Core.Path.{_≡_, sym, _∙_}
-use mathlib.Core.Bool.{true, false≢true}
-use Prim.Native.Nat.{ℕ, _+_, _-_, _*_, _<_}
+use mathlib.Core.Path.{_≡_, refl, sym, _∙_}
+use mathlib.Core.Bool.{false≢true}
+use Prim.Native.Nat.{ℕ, suc, _+_, _-_, _*_, _<_}
 use native.Mathlib.Omega.{arith}
 use lib.ListN.{length, getD}
-use Rattle.canonize.specs.Strings.{same}
-use Rattle.canonize.specs.Label.{label}
-use Rattle.enumerate.specs.Grouped.{keyAt}
 use Rattle.enumerate.proofs.groups.leads.Statement.{statement}
 use Rattle.enumerate.proofs.groups.leads.Tie as tie
 
--- the group whose first member the hint names
-its : (c : tie.Else1) → (k : ℕ) × (k < c .before .before .before .before .before .before .before .before .before .args .g) × (getD (c .before .before .before .before .before .before .before .before .before .args .parts .now) (9 * c .before .before .before .before .before .before .before .before .before .args .p + c .before .before .before .before .before .before .before .before .before .args .j) 0 - 1 ≡ getD (c .before .before .before .before .before .before .before .before .before .args .parts .now) (4 * c .before .before .before .before .before .before .before .before .before .args .p + k) 0)
-its c = let a = c .before .before .before .before .before .before .before .before .before .args in c .before .before .before .before .before .before .before .before .before .pre .3 .first (a .j) (getD (a .parts .now) (9 * a .p + a .j) 0 - 1) (c .before .before .before .before .before .before .before .before .before .pre .4) (omega (arith, c .if1 .left))
+-- where there is a hint
+entry : tie.Else1 → tie.Start
+entry c = c .before .before .before .before .before
 
-within : (c : tie.Else1) → getD (c .before .before .before .before .before .before .before .before .before .args .parts .now) (9 * c .before .before .before .before .before .before .before .before .before .args .p + c .before .before .before .before .before .before .before .before .before .args .j) 0 - 1 < c .before .before .before .before .before .before .before .before .before .args .p
-within c = let k = its c in omega (arith, k .2, c .before .before .before .before .before .before .before .before .before .pre .2 .within (k .0) (k .1))
+-- the candidate that it names
+named : tie.Else1 → ℕ
+named c = let a = entry c .args in getD (a .parts .now) (9 * a .p + a .j) 0 - 1
+
+is-hint : (c : tie.Else1) → getD (entry c .args .parts .now) (9 * entry c .args .p + entry c .args .j) 0 ≡ suc (named c)
+unfolding entry named
+is-hint c = omega (arith, c .if1 .left)
+
+within : (c : tie.Else1) → entry c .args .p + named c < length (entry c .args .parts .now)
+within c = let h = entry c .pre .2 in omega (arith, h .within (named c) (is-hint c), h .wide)
 
 mul-hint : tie.Need-mul-hint
 mul-hint c = search needs
@@ -31,50 +36,39 @@ shared-slice-read-hint : tie.Need-shared-slice-read-hint
 shared-slice-read-hint c = search needs
 
 returns : tie.Need-returns
-returns c = (λ q. absurd (false≢true q), c .before .before .before .before .before .before .before .before .before .pre .6)
+returns c = (λ q. absurd (false≢true q), record { serves = c .before .before .before .before .before .pre .3; label = refl })
 
 sub-f : tie.Need-sub-f
 sub-f c = search needs
 
-add-has-label : tie.Need-add-has-label
-add-has-label c = omega (arith, within c, c .before .before .before .before .before .before .before .before .before .pre .2 .wide, c .before .before .before .before .before .before .before .before .before .good .1 .1 .0 .1)
+add-is-kept : tie.Need-add-is-kept
+unfolding entry named
+add-is-kept c = omega (arith, within c, entry c .good .1 .1 .0 .1)
 
-mul-has-label : tie.Need-mul-has-label
-mul-has-label c =
-    let s = c .before .before .before .before .before .before .before .before .before in
-    scaled-fits (s .args .p + (getD (s .args .parts .now) (9 * s .args .p + s .args .j) 0 - 1)) (length (s .args .parts .now)) 8 (omega (arith, within c, s .pre .2 .wide)) (s .good .1 .1 .0 .1)
+mul-is-kept : tie.Need-mul-is-kept
+unfolding entry named
+mul-is-kept c = scaled-fits (entry c .args .p + named c) (length (entry c .args .parts .now)) 8 (within c) (entry c .good .1 .1 .0 .1)
 
-shared-slice-read-has-label : tie.Need-shared-slice-read-has-label
-shared-slice-read-has-label c = omega (arith, within (c .before), c .before .before .before .before .before .before .before .before .before .before .pre .2 .wide)
+shared-slice-read-is-kept : tie.Need-shared-slice-read-is-kept
+unfolding entry named
+shared-slice-read-is-kept c = within (c .before)
 
-has-label-requires : tie.Need-has-label-requires
-has-label-requires c κs =
-    let p = c .before .before .before .before .before .before .before .before .before .before .before .before .before .before .pre in
-    let k = its (c .before .before .before .before .before) in
-    (p .0, p .1, rw (k .2) (p .2 .own (k .0) (k .1)), rw (k .2) (p .2 .connected (k .0) (k .1)), p .6, p .7, p .8)
+is-kept-requires : tie.Need-is-kept-requires
+unfolding entry named
+is-kept-requires c κs =
+    let d = c .before .before in
+    let p = entry d .pre in
+    (record { formed = p .0; touch = p .1; own = p .2 .own (named d) (is-hint d); connected = p .2 .connected (named d) (is-hint d) }, p .3)
 
 same-length : tie.Need-same-length
 same-length c = search needs
 
-same-length-2 : tie.Need-same-length-2
-same-length-2 c = search needs
-
-same-length-3 : tie.Need-same-length-3
-same-length-3 c = search needs
-
-same-length-4 : tie.Need-same-length-4
-same-length-4 c = search needs
-
 returns-2 : tie.Need-returns-2
-unfolding keyAt
+unfolding entry named
 returns-2 c =
-    let a = c .before .before .before .before .before .before .before .before .before .before .before .before .before .before .before .before .before .before .before .before .before .before .before .args in
-    let k = its (c .before .before .before .before .before .before .before .before .before .before .before .before .before .before) in (
-      λ t.
-          let h : same (a .label .now) (label (a .bytes .now) (getD (a .parts .now) (a .p + (getD (a .parts .now) (9 * a .p + a .j) 0 - 1)) 0)) ≡ true = sym (c .before .before .before .before .before .before .before .before .has-label .ensures .0) ∙ t in
-          (k .0, k .1, omega (arith, k .2, c .before .before .before .before .before .before .before .before .before .before .before .before .before .before .if1 .left), rw (k .2) at h),
-      c .before .before .before .before .before .before .before .before .has-label .ensures .1,
-    )
+    let k = c .before .before .is-kept in
+    let d = c .before .before .before .before .before in
+    (λ t. (named d, is-hint d, sym (k .ensures .0) ∙ t), k .ensures .1)
 
 pub leads-spec : {M : Type 1} → statement M
 leads-spec =
@@ -86,12 +80,9 @@ leads-spec =
     shared-slice-read-hint
     returns
     sub-f
-    add-has-label
-    mul-has-label
-    shared-slice-read-has-label
-    has-label-requires
+    add-is-kept
+    mul-is-kept
+    shared-slice-read-is-kept
+    is-kept-requires
     same-length
-    same-length-2
-    same-length-3
-    same-length-4
     returns-2)

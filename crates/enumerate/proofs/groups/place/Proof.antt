@@ -1,46 +1,55 @@
 -- `enumerate::groups::place` meets its contract. Assumes nothing.
-use borrow.Author.Needs.{needs, scaled-fits}
-use mathlib.Core.Path.{_≡_, refl, ap, _∙_}
-use Prim.Native.Nat.{ℕ, _+_, _-_, _*_, _≤_, _<_}
+use borrow.Author.Needs.{needs}
+use mathlib.Core.Path.{_≡_}
+use Prim.Native.Nat.{ℕ, _+_, _-_, _*_, _<_}
 use native.Mathlib.Omega.{arith}
 use lib.ListN.{length, getD}
-use Rattle.enumerate.specs.Grouped.{Firsts, Leads, joined}
-use Rattle.enumerate.proofs.Grouping.{outside-around, around-then, placing-room, placing-last, placing-firsts, placing-position, join-outside, moved-join, placed-join, hints-moved, around-noted, hints-noted, placed-noted}
+use Rattle.canonize.specs.Inner.Slate.{kept}
+use Rattle.enumerate.specs.Inner.Grouped.{Outside, Leads, Moved}
+use Rattle.enumerate.proofs.Grouping.{placing-room, placing-last, placing-firsts, hinted, leads-group, Places, hint-places, order-places, new-places}
 use Rattle.enumerate.proofs.groups.place.Statement.{statement}
 use Rattle.enumerate.proofs.groups.place.Tie as tie
 
-firsts : (c : tie.Start) → Firsts (c .args .bytes .now) (c .args .parts .now) (c .args .p) (c .args .g)
-firsts c = let a = c .args in placing-firsts (a .bytes .now) (a .parts .now) (a .p) (c .pre .2 .0) (a .i) (c .pre .2 .1) (a .g) (a .label .now) (c .pre .2 .2)
-
-room : (c : tie.Start) → c .args .i < c .args .p
-room c = let a = c .args in placing-room (a .bytes .now) (a .parts .now) (a .p) (c .pre .2 .0) (a .i) (c .pre .2 .1) (a .g) (a .label .now) (c .pre .2 .2)
-
 -- the hint is in the table
-slot-in : (c : tie.After-slot) → 9 * c .before .before .before .before .before .before .before .before .args .p + c .slot .result < length (c .before .before .before .before .before .before .before .before .args .parts .now)
-slot-in c = let p = c .before .before .before .before .before .before .before .before .pre in omega (arith, c .slot .ensures, p .7, p .2 .2 .ready .wide)
+abbrev entry : tie.After-spread → tie.Start
+entry c = c .before .before .before .before .before
 
--- the group to which it leads
-group-of : (c : tie.Then1) → Leads (c .before .before .before .before .before .before .before .before .before .before .before .before .before .before .before .before .before .before .before .before .before .before .before .args .bytes .now) (c .before .before .before .before .before .before .before .before .before .before .before .before .before .before .before .before .before .before .before .before .before .before .before .args .parts .now) (c .before .before .before .before .before .before .before .before .before .before .before .before .before .before .before .before .before .before .before .before .before .before .before .args .p) (c .before .before .before .before .before .before .before .before .before .before .before .before .before .before .before .before .before .before .before .before .before .before .before .args .g) (c .before .before .before .before .before .before .before .before .before .before .before .before .before .before .before .slot .result) (c .before .before .before .before .before .before .before .before .before .before .before .before .before .before .before .before .before .before .before .before .before .before .before .args .label .now)
-group-of c = c .before .before .before .before .before .before .before .before .before .leads .ensures .0 (c .if1 .taken)
+hint-in : (c : tie.After-spread) → 9 * entry c .args .p + c .spread .result < length (entry c .args .parts .now)
+hint-in c = let p = entry c .pre in omega (arith, c .spread .ensures, p .5, p .3 .2 .ready .wide)
 
-first-of : (c : tie.Then1) → getD (c .before .before .before .before .before .before .before .before .before .before .before .before .before .before .before .before .before .before .before .before .before .before .before .args .parts .now) (9 * c .before .before .before .before .before .before .before .before .before .before .before .before .before .before .before .before .before .before .before .before .before .before .before .args .p + c .before .before .before .before .before .before .before .before .before .before .before .before .before .before .before .slot .result) 0 - 1 ≡ getD (c .before .before .before .before .before .before .before .before .before .before .before .before .before .before .before .before .before .before .before .before .before .before .before .args .parts .now) (4 * c .before .before .before .before .before .before .before .before .before .before .before .before .before .before .before .before .before .before .before .before .before .before .before .args .p + group-of c .0) 0
-first-of c = omega (arith, group-of c .2)
+-- it leads to a group
+abbrev at-hint : tie.Then1 → tie.After-spread
+at-hint c = c .before .before .before .before .before .before
 
-first-in : (c : tie.Then1) → getD (c .before .before .before .before .before .before .before .before .before .before .before .before .before .before .before .before .before .before .before .before .before .before .before .args .parts .now) (4 * c .before .before .before .before .before .before .before .before .before .before .before .before .before .before .before .before .before .before .before .before .before .before .before .args .p + group-of c .0) 0 < c .before .before .before .before .before .before .before .before .before .before .before .before .before .before .before .before .before .before .before .before .before .before .before .args .p
-first-in c = let k = group-of c in firsts (c .before .before .before .before .before .before .before .before .before .before .before .before .before .before .before .before .before .before .before .before .before .before .before) .within (k .0) (k .1)
+leads-to : (c : tie.Then1) → Leads (entry (at-hint c) .args .bytes .now) (entry (at-hint c) .args .parts .now) (entry (at-hint c) .args .p)
+    (at-hint c .spread .result) (kept (entry (at-hint c) .args .slate .now))
+leads-to c = c .before .before .before .leads .ensures .0 (c .if1 .taken)
 
-last-in : (c : tie.Then1) → getD (c .before .before .before .before .before .before .before .before .before .before .before .before .before .before .before .before .before .before .before .before .before .before .before .args .parts .now) (6 * c .before .before .before .before .before .before .before .before .before .before .before .before .before .before .before .before .before .before .before .before .before .before .before .args .p + getD (c .before .before .before .before .before .before .before .before .before .before .before .before .before .before .before .before .before .before .before .before .before .before .before .args .parts .now) (4 * c .before .before .before .before .before .before .before .before .before .before .before .before .before .before .before .before .before .before .before .before .before .before .before .args .p + group-of c .0) 0) 0 < c .before .before .before .before .before .before .before .before .before .before .before .before .before .before .before .before .before .before .before .before .before .before .before .args .p
-last-in c =
-    let a = c .before .before .before .before .before .before .before .before .before .before .before .before .before .before .before .before .before .before .before .before .before .before .before .args in
-    let q = c .before .before .before .before .before .before .before .before .before .before .before .before .before .before .before .before .before .before .before .before .before .before .before .pre .2 in
-    let k = group-of c in
-    omega (arith, placing-last (a .bytes .now) (a .parts .now) (a .p) (q .0) (a .i) (q .1) (a .g) (a .label .now) (q .2) (k .0) (k .1), room (c .before .before .before .before .before .before .before .before .before .before .before .before .before .before .before .before .before .before .before .before .before .before .before))
+first-of : (c : tie.Then1) → let a = entry (at-hint c) .args in (k : ℕ) × (k < a .g)
+    × (getD (a .parts .now) (9 * a .p + at-hint c .spread .result) 0 - 1 ≡ getD (a .parts .now) (4 * a .p + k) 0)
+first-of c =
+    let s = entry (at-hint c) in
+    let k = leads-group (s .args .bytes .now) (s .pre .6) (at-hint c .spread .ensures) _ (leads-to c) in
+    (k .0, k .1, omega (arith, k .2))
 
-slot-requires : tie.Need-slot-requires
-slot-requires c κs = search needs
+-- it does not, and the candidate is placed by order
+abbrev past-hint : tie.After-place-by-order → tie.After-spread
+past-hint c = c .before .before .before .before .before .before .before .before .before
+
+order : (c : tie.After-place-by-order) → let a = entry (past-hint c) .args in
+    Outside (a .parts .now) (c .place-by-order .last .1 .1 .0) (a .p)
+    × Moved (a .parts .now) (c .place-by-order .last .1 .1 .0) (a .p) (a .g) (c .place-by-order .result) (a .i)
+    × Places (a .bytes .now) (a .parts .now) (c .place-by-order .last .1 .1 .0) (a .p) (a .i) (a .g) (c .place-by-order .result) (kept (a .slate .now))
+order c = rw (c .before .before .before .before .before .before .leads .ensures .1 .label) at (c .place-by-order .ensures .0)
+
+spread-requires : tie.Need-spread-requires
+spread-requires c κs = search needs
 
 leads-requires : tie.Need-leads-requires
-leads-requires c κs = let p = c .before .before .before .before .before .before .before .before .before .before .before .before .before .pre in (p .0, p .1, firsts (c .before .before .before .before .before .before .before .before .before .before .before .before .before), p .8, c .before .before .before .before .before .slot .ensures, slot-in (c .before .before .before .before .before), p .3, p .4, p .5)
+leads-requires c κs =
+    let b = c .before .before in
+    let s = entry b in
+    (s .pre .0, s .pre .1, hinted (s .args .bytes .now) (s .pre .6) (b .spread .ensures) (placing-firsts (s .pre .3 .2)) (hint-in b), s .pre .2)
 
 mul-f : tie.Need-mul-f
 mul-f c = search needs
@@ -55,10 +64,18 @@ slice-read-f : tie.Need-slice-read-f
 slice-read-f c = search needs
 
 sub-f : tie.Need-sub-f
-sub-f c = omega (arith, group-of (c .before) .2)
+sub-f c = omega (arith, leads-to (c .before) .1)
 
 join-requires : tie.Need-join-requires
-join-requires c κs = (firsts (c .before .before .before .before .before .before .before .before .before .before .before .before .before .before .before .before .before .before .before .before .before .before .before .before .before) .wide, rw (first-of (c .before .before)) (first-in (c .before .before)), room (c .before .before .before .before .before .before .before .before .before .before .before .before .before .before .before .before .before .before .before .before .before .before .before .before .before), rw (first-of (c .before .before)) (last-in (c .before .before)))
+join-requires c κs =
+    let d = c .before .before in
+    let w = entry (at-hint d) .pre .3 .2 in
+    let k = first-of d in (
+      placing-firsts w .wide,
+      rw (k .2) (placing-firsts w .within (k .0) (k .1)),
+      placing-room w,
+      rw (k .2) (omega (arith, placing-last w (k .0) (k .1), placing-room w)),
+    )
 
 same-length : tie.Need-same-length
 same-length c = search needs
@@ -66,112 +83,64 @@ same-length c = search needs
 same-length-2 : tie.Need-same-length-2
 same-length-2 c = search needs
 
+returns : tie.Need-returns
+returns c =
+    let d = c .before .before .before .before .before in
+    let p = entry (at-hint d) .pre in (
+      hint-places (p .3 .2) (p .6) _ (at-hint d .spread .ensures) (leads-to d) _ (c .before .before .join .ensures),
+      d .before .before .before .leads .ensures .1 .serves,
+    )
+
+place-by-order-requires : tie.Need-place-by-order-requires
+place-by-order-requires c κs =
+    let k = c .before .before .before .before .before .leads .ensures .1 in
+    let p = entry (c .before .before .before .before .before .before .before .before) .pre in
+    (p .0, p .1, k .serves, (p .3 .0, p .3 .1, rw (k .label) (p .3 .2)))
+
 same-length-3 : tie.Need-same-length-3
 same-length-3 c = search needs
 
 same-length-4 : tie.Need-same-length-4
 same-length-4 c = search needs
 
+returns-2 : tie.Need-returns-2
+returns-2 c =
+    let b = c .before .before .before .before .before in
+    let p = entry (past-hint b) .pre in
+    (order-places (p .3 .2) (p .6) _ _ (order b), b .place-by-order .ensures .1)
+
+add-parts : tie.Need-add-parts
+add-parts c = search needs
+
+mul-parts : tie.Need-mul-parts
+mul-parts c = search needs
+
+add-parts-2 : tie.Need-add-parts-2
+add-parts-2 c = search needs
+
+mul-parts-2 : tie.Need-mul-parts-2
+mul-parts-2 c = search needs
+
+slice-write-parts : tie.Need-slice-write-parts
+slice-write-parts c = search needs
+
 same-length-5 : tie.Need-same-length-5
 same-length-5 c = search needs
-
-returns : tie.Need-returns
-returns c =
-    let s = c .before .before .before .before .before .before .before .before .before .before .before .before .before .before .before .before .before .before .before .before .before .before .before .before .before .before .before .before in
-    let a = s .args in
-    let k = group-of (c .before .before .before .before .before) in
-    let f = getD (a .parts .now) (4 * a .p + k .0) 0 in
-    let o = join-outside (a .parts .now) (a .p) f (a .i) (firsts s .wide) (first-in (c .before .before .before .before .before)) (room s) (last-in (c .before .before .before .before .before)) in
-    let v = moved-join (a .parts .now) (a .p) f (a .i) (firsts s .wide) (first-in (c .before .before .before .before .before)) (room s) (last-in (c .before .before .before .before .before)) (a .g) (firsts s .few) in
-    let e : c .before .before .join .last .0 ≡ joined (a .parts .now) (a .p) f (a .i) = c .before .before .join .ensures ∙ ap (λ (x : ℕ). joined (a .parts .now) (a .p) x (a .i)) (first-of (c .before .before .before .before .before)) in (
-      (
-        rw e (outside-around o),
-        rw e (hints-moved o v (s .pre .8)),
-        λ l gs w. rw e (placed-join (a .bytes .now) (a .parts .now) (a .p) l (a .i) gs (a .g) (a .label .now) w (k .0) (placing-position (a .bytes .now) (a .parts .now) (a .p) l (a .i) gs (a .g) (a .label .now) w (k .0) (k .1) (k .3)) (k .1) (k .3)),
-      ),
-      c .before .before .before .before .before .before .before .before .before .before .before .before .before .before .leads .ensures .1,
-    )
-
-place-by-order-requires : tie.Need-place-by-order-requires
-place-by-order-requires c κs =
-    let p = c .before .before .before .before .before .before .before .before .before .before .before .before .before .before .before .before .before .before .before .before .before .before .before .before .before .before .before .before .pre in
-    let k = c .before .before .before .before .before .before .before .before .before .before .before .before .before .before .leads in
-    (p .0, p .1, p .2, k .ensures .1, omega (arith, k .kept .1 .1 .1 .1 .1 .1 .1 .1 .1 .1 .0, p .4), omega (arith, k .kept .1 .1 .1 .1 .1 .1 .1 .1 .1 .1 .1 .0, p .5))
 
 same-length-6 : tie.Need-same-length-6
 same-length-6 c = search needs
 
-same-length-7 : tie.Need-same-length-7
-same-length-7 c = search needs
-
-same-length-8 : tie.Need-same-length-8
-same-length-8 c = search needs
-
-same-length-9 : tie.Need-same-length-9
-same-length-9 c = search needs
-
-same-length-10 : tie.Need-same-length-10
-same-length-10 c = search needs
-
-returns-2 : tie.Need-returns-2
-returns-2 c =
-    let n = c .before .before .before .before .before .before .before .before .before .before .before .place-by-order .ensures in
-    ((outside-around (n .0 .0), hints-moved (n .0 .0) (n .0 .1) (c .before .before .before .before .before .before .before .before .before .before .before .before .before .before .before .before .before .before .before .before .before .before .before .before .before .before .before .before .before .before .before .before .before .before .before .before .before .before .before .before .pre .8), n .0 .2), n .1)
-
-add-parts : tie.Need-add-parts
-add-parts c = omega (arith, room (c .before .before .before .before .before .before .before .before .before .before .before .before .before .before .before .before .before .before .before .before .before .before .before .before .before .before .before .before .before .before .before .before .before .before .before .before .before .before .before .before), firsts (c .before .before .before .before .before .before .before .before .before .before .before .before .before .before .before .before .before .before .before .before .before .before .before .before .before .before .before .before .before .before .before .before .before .before .before .before .before .before .before .before) .wide, c .before .before .before .before .before .before .before .before .before .before .before .before .before .before .before .before .before .before .before .before .before .before .before .before .before .before .before .before .before .before .before .before .before .before .before .before .before .before .before .before .good .1 .1 .0 .1)
-
-mul-parts : tie.Need-mul-parts
-mul-parts c = omega (arith, slot-in (c .before .before .before .before .before .before .before .before .before .before .before .before .before .before .before .before .before .before .before .before .before .before .before .before .before .before .before .before .before .before .before .before), c .before .before .before .before .before .before .before .before .before .before .before .before .before .before .before .before .before .before .before .before .before .before .before .before .before .before .before .before .before .before .before .before .before .before .before .before .before .before .before .before .good .1 .1 .0 .1)
-
-add-parts-2 : tie.Need-add-parts-2
-add-parts-2 c = omega (arith, slot-in (c .before .before .before .before .before .before .before .before .before .before .before .before .before .before .before .before .before .before .before .before .before .before .before .before .before .before .before .before .before .before .before .before), c .before .before .before .before .before .before .before .before .before .before .before .before .before .before .before .before .before .before .before .before .before .before .before .before .before .before .before .before .before .before .before .before .before .before .before .before .before .before .before .before .good .1 .1 .0 .1)
-
-mul-parts-2 : tie.Need-mul-parts-2
-mul-parts-2 c = scaled-fits (9 * c .before .before .before .before .before .before .before .before .before .before .before .before .before .before .before .before .before .before .before .before .before .before .before .before .before .before .before .before .before .before .before .before .before .before .before .before .before .before .before .before .args .p + c .before .before .before .before .before .before .before .before .before .before .before .before .before .before .before .before .before .before .before .before .before .before .before .before .before .before .before .before .before .before .before .before .slot .result) (length (c .before .before .before .before .before .before .before .before .before .before .before .before .before .before .before .before .before .before .before .before .before .before .before .before .before .before .before .before .before .before .before .before .before .before .before .before .before .before .before .before .args .parts .now)) 8 (slot-in (c .before .before .before .before .before .before .before .before .before .before .before .before .before .before .before .before .before .before .before .before .before .before .before .before .before .before .before .before .before .before .before .before)) (c .before .before .before .before .before .before .before .before .before .before .before .before .before .before .before .before .before .before .before .before .before .before .before .before .before .before .before .before .before .before .before .before .before .before .before .before .before .before .before .before .good .1 .1 .0 .1)
-
-slice-write-parts : tie.Need-slice-write-parts
-slice-write-parts c = omega (arith, slot-in (c .before .before .before .before .before .before .before .before .before .before .before .before .before .before .before .before .before .before .before .before .before .before .before .before .before .before .before .before .before .before .before .before), c .before .before .before .before .before .before .before .before .before .before .before .place-by-order .ensures .0 .0 .long)
-
-same-length-11 : tie.Need-same-length-11
-same-length-11 c = search needs
-
-same-length-12 : tie.Need-same-length-12
-same-length-12 c = search needs
-
-same-length-13 : tie.Need-same-length-13
-same-length-13 c = search needs
-
-same-length-14 : tie.Need-same-length-14
-same-length-14 c = search needs
-
-same-length-15 : tie.Need-same-length-15
-same-length-15 c = search needs
-
 returns-3 : tie.Need-returns-3
 returns-3 c =
-    let s = c .before .before .before .before .before .before .before .before .before .before .before .before .before .before .before .before .before .before .before .before .before .before .before .before .before .before .before .before .before .before .before .before .before .before .before .before .before .before .before .before in
-    let a = s .args in
-    let j = c .before .before .before .before .before .before .before .before .before .before .before .before .before .before .before .before .before .before .before .before .before .before .before .before .before .before .before .before .before .before .before .before .slot .result in
-    let n = c .before .before .before .before .before .before .before .before .before .before .before .place-by-order in
-    let o = n .ensures .0 .0 in
-    let v = n .ensures .0 .1 in
-    let w = n .ensures .0 .2 (s .pre .2 .0) (s .pre .2 .1) (s .pre .2 .2) in
-    let parts = n .last .1 .1 .0 in
-    let few : n .result ≤ a .p = omega (arith, w .grouped .few, w .count, room s) in (
-      (
-        around-then (outside-around o) (around-noted parts (a .p) j (a .i + 1)),
-        hints-noted parts (a .p) j (a .i + 1) (a .m) (n .result) (a .i) refl (omega (arith, slot-in (c .before .before .before .before .before .before .before .before .before .before .before .before .before .before .before .before .before .before .before .before .before .before .before .before .before .before .before .before .before .before .before .before), o .long)) few (v .new (c .if2 .left)) (hints-moved o v (s .pre .8)),
-        λ l gs q. placed-noted parts (a .p) j (a .i + 1) (room s) (n .ensures .0 .2 l gs q),
-      ),
-      n .ensures .1,
-    )
+    let b = c .before .before .before .before .before in
+    let p = entry (past-hint b) .pre in
+    (new-places (p .3 .2) (p .6) _ _ (order b) _ (hint-in (past-hint b)) (c .if2 .left), b .place-by-order .ensures .1)
 
 pub place-spec : {M : Type 1} → statement M
 place-spec =
     tie.close
     (tie.spec
-    slot-requires
+    spread-requires
     leads-requires
     mul-f
     add-f
@@ -181,25 +150,16 @@ place-spec =
     join-requires
     same-length
     same-length-2
-    same-length-3
-    same-length-4
-    same-length-5
     returns
     place-by-order-requires
-    same-length-6
-    same-length-7
-    same-length-8
-    same-length-9
-    same-length-10
+    same-length-3
+    same-length-4
     returns-2
     add-parts
     mul-parts
     add-parts-2
     mul-parts-2
     slice-write-parts
-    same-length-11
-    same-length-12
-    same-length-13
-    same-length-14
-    same-length-15
+    same-length-5
+    same-length-6
     returns-3)

@@ -13,8 +13,7 @@ use Rattle.canonize.specs.Label.{label}
 use Rattle.canonize.specs.Answer.{badSet, labelVerdict, labelled, labelAnswer, answerOf}
 use Rattle.canonize.specs.declared.Labelled.{Labelled}
 use Rattle.canonize.specs.declared.Labelled.the-variants.{Length, Record, Set, Buffer}
-use Rattle.canonize.proofs.Answers.{answer-refused, answer-label, record-row, set-row, buffer-row, no-row, good-set}
-use Rattle.canonize.proofs.Laws.{label-fits}
+use Rattle.canonize.proofs.Laws.{answer-refused, answer-label, record-row, set-row, buffer-row, no-row, good-set, label-fits}
 use Rattle.lines.specs.Inside.{Inside}
 use Rattle.lines.proofs.label_line.answer.Statement.{statement}
 use Rattle.lines.proofs.label_line.answer.Tie as tie

@@ -7,7 +7,7 @@ use native.Mathlib.Omega.{arith}
 use lib.ListN.{getD}
 use lib.Bits.{bitOr, or-zero-r}
 use Rattle.bitset.specs.Bits.{size, diff, members, unions}
-use Rattle.bitset.proofs.Laws.{or-assoc, members-turn, members-done}
+use Rattle.bitset.proofs.Laws.{or-assoc, members-turn, members-done, unions-none, unions-more}
 use Rattle.molecule.specs.Touch.{around}
 use Rattle.molecule.proofs.graph.around.Statement.{statement}
 use Rattle.molecule.proofs.graph.around.Tie as tie
@@ -46,22 +46,22 @@ loop-less : tie.Need-loop-less Inv-loop μ-loop
 loop-less c = omega (arith, c .without-lowest .ensures .fewer)
 
 loop-again : tie.Need-loop-again Inv-loop μ-loop
-unfolding unions
 loop-again c =
     let t = next (c .before .before .before .before .before .before .args .touch .now) in
     let l = c .before .before .before .before .before .loop in
     let m = members-turn (l .rest) (c .before .before .before .lowest .result) (c .without-lowest .result) (omega arith) (l .inv .0) (c .before .before .before .lowest .ensures) (c .without-lowest .ensures) in
-    (search needs, rw (c .before .union .ensures, or-assoc) (ap (λ (k : List ℕ). bitOr (l .near) (unions t k)) (sym m) ∙ l .inv .1))
+    (search needs, rw (c .before .union .ensures, or-assoc) (ap (λ (x : ℕ). bitOr (l .near) x) (sym (ap (unions t) m ∙ unions-more t _ _)) ∙ l .inv .1))
 
 difference-requires : tie.Need-difference-requires Inv-loop μ-loop
 difference-requires c κs = search needs
 
 returns : tie.Need-returns Inv-loop μ-loop
-unfolding around unions
+unfolding around
 returns c =
     let t = next (c .before .before .before .args .touch .now) in
     let l = c .before .before .loop in
-    let e : l .near ≡ unions t (members (c .before .before .before .args .s)) = sym (or-zero-r (l .near)) ∙ ap (λ (k : List ℕ). bitOr (l .near) (unions t k)) (sym (members-done (l .rest) (c .before .loop-test .left))) ∙ l .inv .1 in
+    let e : l .near ≡ unions t (members (c .before .before .before .args .s)) = sym (or-zero-r (l .near)) ∙ ap (λ (x : ℕ). bitOr (l .near) x)
+    (sym (ap (unions t) (members-done (l .rest) (c .before .loop-test .left)) ∙ unions-none t)) ∙ l .inv .1 in
     c .difference .ensures ∙ ap (λ (x : ℕ). diff x (c .before .before .before .args .s)) e
 
 pub around-spec : {M : Type 1} → statement M

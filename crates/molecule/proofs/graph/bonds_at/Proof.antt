@@ -1,9 +1,10 @@
 -- `molecule::graph::bonds_at` meets its contract: after i turns each atom has those of the first i bonds that are at it. Assumes nothing.
 use borrow.Author.Needs.{needs}
-use mathlib.Core.Path.{_≡_, refl, ap, _∙_}
+use mathlib.Core.Path.{_≡_, refl, sym, ap, _∙_}
 use Prim.Native.Nat.{_≤_, _<_, _-_}
 use native.Mathlib.Omega.{arith}
 use Rattle.bitset.specs.Bits.{setOf}
+use Rattle.bitset.proofs.Members.{setOf-none}
 use Rattle.molecule.specs.Record.{bonds}
 use Rattle.molecule.specs.Touch.{isEnd, bondsAt}
 use Rattle.molecule.proofs.Accepted.{end-few}
@@ -22,8 +23,15 @@ bonds-requires : tie.Need-bonds-requires Inv-loop μ-loop
 bonds-requires c κs = omega arith
 
 loop-holds : tie.Need-loop-holds Inv-loop μ-loop
-unfolding setOf
-loop-holds c = (omega arith, c .bonds .ensures .0, record { long = refl; each = λ v h. zeros-at 65 v })
+loop-holds c = (
+  omega arith,
+  c .bonds .ensures .0,
+  record {
+    long = refl;
+    each = λ v h. zeros-at 65 v ∙ sym
+        (setOf-none (isEnd (c .before .before .args .bytes .now) v));
+  },
+)
 
 end-a-requires : tie.Need-end-a-requires Inv-loop μ-loop
 end-a-requires c κs = search needs

@@ -9,7 +9,7 @@ returns : tie.Need-returns
 returns c = rw (lt-ltb _ _ (c .if1 .taken))
 
 returns-2 : tie.Need-returns-2
-returns-2 c = rw (le-ltb _ _ (c .if1 .left))
+returns-2 c = rw (le-ltb _ _ (c .before .if1 .left))
 
 pub better-spec : {M : Type 1} → statement M
 better-spec = tie.close (tie.spec returns returns-2)

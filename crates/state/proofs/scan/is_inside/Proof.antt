@@ -21,7 +21,9 @@ is-subset-requires : tie.Need-is-subset-requires
 is-subset-requires c κs = search needs
 
 returns : tie.Need-returns
-returns c = λ pieces w. c .is-subset .ensures ∙ owner-inside pieces (c .before .before .before .args .own .now) (c .before .before .before .args .h) (c .before .before .lowest .result) w (c .before .before .lowest .ensures .within) (c .before .before .lowest .ensures .member)
+returns c =
+    let a = c .before .before .before .args in
+    λ pieces w. c .is-subset .ensures ∙ owner-inside pieces (a .own .now) (a .h) (c .before .before .lowest .result) w (c .before .before .lowest .ensures .within) (c .before .before .lowest .ensures .member)
 
 pub is-inside-spec : {M : Type 1} → statement M
 is-inside-spec =

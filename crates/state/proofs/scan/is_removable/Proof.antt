@@ -21,7 +21,9 @@ is-subset-requires : tie.Need-is-subset-requires
 is-subset-requires c κs = search needs
 
 returns : tie.Need-returns
-returns c = λ ms pieces w h. scan-outside (c .before .before .before .before .args .pairs .now) ms pieces (c .before .before .before .before .args .own .now) (c .before .before .before .before .args .all) (c .before .before .before .before .args .m) w h (c .before .is-subset .result) (c .before .is-subset .ensures) (c .if1 .taken)
+returns c =
+    let a = c .before .before .before .before .args in
+    λ ms pieces w h. scan-outside (a .pairs .now) ms pieces (a .own .now) (a .all) (a .m) w h (c .before .is-subset .result) (c .before .is-subset .ensures) (c .if1 .taken)
 
 mul-is-inside : tie.Need-mul-is-inside
 mul-is-inside c = search needs
@@ -33,10 +35,15 @@ shared-slice-read-is-inside : tie.Need-shared-slice-read-is-inside
 shared-slice-read-is-inside c = search needs
 
 is-inside-requires : tie.Need-is-inside-requires
-is-inside-requires c κs = λ e. c .before .before .before .before .before .pre .2 .first (c .before .before .before .before .before .args .m) (c .before .before .before .before .before .pre .3) (sym (c .before .before .before .before .before .pre .2 .recorded .one (c .before .before .before .before .before .args .m) (c .before .before .before .before .before .pre .3)) ∙ e)
+is-inside-requires c κs =
+    let a = c .before .before .before .before .before .args in
+    let p = c .before .before .before .before .before .pre in
+    λ e. p .2 .first (a .m) (p .3) (sym (p .2 .recorded .one (a .m) (p .3)) ∙ e)
 
 returns-2 : tie.Need-returns-2
-returns-2 c = λ ms pieces w h. scan-first (c .before .before .before .before .before .before .before .args .pairs .now) ms pieces (c .before .before .before .before .before .before .before .args .own .now) (c .before .before .before .before .before .before .before .args .all) (c .before .before .before .before .before .before .before .args .m) w h (c .before .is-inside .result) (c .before .is-inside .ensures) (c .if2 .taken)
+returns-2 c =
+    let a = c .before .before .before .before .before .before .before .args in
+    λ ms pieces w h. scan-first (a .pairs .now) ms pieces (a .own .now) (a .all) (a .m) w h (c .before .is-inside .result) (c .before .is-inside .ensures) (c .if2 .taken)
 
 mul-is-inside-3 : tie.Need-mul-is-inside-3
 mul-is-inside-3 c = search needs
@@ -51,10 +58,15 @@ shared-slice-read-is-inside-2 : tie.Need-shared-slice-read-is-inside-2
 shared-slice-read-is-inside-2 c = search needs
 
 is-inside-requires-2 : tie.Need-is-inside-requires-2
-is-inside-requires-2 c κs = λ e. c .before .before .before .before .before .before .before .before .pre .2 .second (c .before .before .before .before .before .before .before .before .args .m) (c .before .before .before .before .before .before .before .before .pre .3) (sym (c .before .before .before .before .before .before .before .before .pre .2 .recorded .other (c .before .before .before .before .before .before .before .before .args .m) (c .before .before .before .before .before .before .before .before .pre .3)) ∙ e)
+is-inside-requires-2 c κs =
+    let a = c .before .before .before .before .before .before .before .before .args in
+    let p = c .before .before .before .before .before .before .before .before .pre in
+    λ e. p .2 .second (a .m) (p .3) (sym (p .2 .recorded .other (a .m) (p .3)) ∙ e)
 
 returns-3 : tie.Need-returns-3
-returns-3 c = λ ms pieces w h. scan-both (c .before .before .before .before .before .before .before .before .before .args .pairs .now) ms pieces (c .before .before .before .before .before .before .before .before .before .args .own .now) (c .before .before .before .before .before .before .before .before .before .args .all) (c .before .before .before .before .before .before .before .before .before .args .m) w h (c .before .before .before .is-inside .result) (c .before .before .before .is-inside .ensures) (c .before .before .if2 .left) (c .is-inside2 .result) (c .is-inside2 .ensures)
+returns-3 c =
+    let a = c .before .before .before .before .before .before .before .before .before .args in
+    λ ms pieces w h. scan-both (a .pairs .now) ms pieces (a .own .now) (a .all) (a .m) w h (c .before .before .before .is-inside .result) (c .before .before .before .is-inside .ensures) (c .before .before .if2 .left) (c .is-inside2 .result) (c .is-inside2 .ensures)
 
 pub is-removable-spec : {M : Type 1} → statement M
 is-removable-spec =

@@ -35,13 +35,18 @@ loop-less : tie.Need-loop-less Inv-loop μ-loop
 loop-less c = omega (arith, c .without-lowest .ensures .fewer)
 
 loop-again : tie.Need-loop-again Inv-loop μ-loop
-loop-again c = marking-next (c .before .before .before .before .before .args .own .now) (c .before .before .before .loop .own) (c .before .before .before .before .before .args .p) (c .before .before .before .loop .rest) (c .before .lowest .result) (c .without-lowest .result) (c .before .before .before .before .before .pre) (c .before .before .before .loop .inv) (c .before .lowest .ensures) (c .without-lowest .ensures)
+loop-again c =
+    let a = c .before .before .before .before .before .args in
+    let l = c .before .before .before .loop in
+    marking-next (a .own .now) (l .own) (a .p) (l .rest) (c .before .lowest .result) (c .without-lowest .result) (c .before .before .before .before .before .pre) (l .inv) (c .before .lowest .ensures) (c .without-lowest .ensures)
 
 same-length : tie.Need-same-length Inv-loop μ-loop
 same-length c = c .before .loop .inv .long
 
 returns : tie.Need-returns Inv-loop μ-loop
-returns c = marking-done (c .before .before .before .args .own .now) (c .before .loop .own) (c .before .before .before .args .p) (c .before .loop .rest) (c .before .loop .inv) (c .loop-test .left)
+returns c =
+    let a = c .before .before .before .args in
+    marking-done (a .own .now) (c .before .loop .own) (a .p) (c .before .loop .rest) (c .before .loop .inv) (c .loop-test .left)
 
 pub mark-spec : {M : Type 1} → statement M
 mark-spec =

@@ -6,7 +6,7 @@ use Prim.Native.Nat.{ℕ, _+_, _-_, _*_, _≤_, _<_}
 use native.Mathlib.Omega.{arith}
 use lib.ListN.{length, getD, length-set}
 use Rattle.matches.specs.Table.{Pair}
-use Rattle.state.specs.Scan.{Scanning, Told}
+use Rattle.state.specs.Inner.Scan.{Scanning, Told}
 use Rattle.state.proofs.Scanning.{told-start, told-take, told-skip}
 use Rattle.state.proofs.scan.masks.Statement.{statement}
 use Rattle.state.proofs.scan.masks.Tie as tie
@@ -18,15 +18,19 @@ Inv-loop pairs from matches own all masks₀ largest₀ first₀ i₀ masks larg
 abbrev μ-loop : tie.MeasureT-loop
 μ-loop pairs from matches own all masks₀ largest₀ first₀ i₀ masks largest first i = i
 
+-- the function's entry, from within the loop
+abbrev start : tie.In-loop Inv-loop μ-loop → tie.Start Inv-loop μ-loop
+start c = c .before .before .before .before .before .before .before .before
+
 -- the match looked at is one of the table's; its words are among the lent ones; and its size is a place of masks
-within : (c : tie.In-loop Inv-loop μ-loop) → c .before .loop .i - 1 < length (c .before .before .before .before .before .before .before .before .pre .2 .0)
-within c = omega (arith, c .before .before .before .before .before .before .before .before .pre .2 .3, c .loop-test .taken, c .before .loop .inv .1)
+within : (c : tie.In-loop Inv-loop μ-loop) → c .before .loop .i - 1 < length (start c .pre .2 .0)
+within c = omega (arith, start c .pre .2 .3, c .loop-test .taken, c .before .loop .inv .1)
 
-place : (c : tie.In-loop Inv-loop μ-loop) (k : ℕ) → k < 4 → 4 * (c .before .loop .i - 1) + k < length (c .before .before .before .before .before .before .before .before .args .pairs .now)
-place c k h = omega (arith, within c, c .before .before .before .before .before .before .before .before .pre .2 .2 .room)
+place : (c : tie.In-loop Inv-loop μ-loop) (k : ℕ) → k < 4 → 4 * (c .before .loop .i - 1) + k < length (start c .args .pairs .now)
+place c k h = omega (arith, within c, start c .pre .2 .2 .room)
 
-few : (c : tie.In-loop Inv-loop μ-loop) → getD (c .before .before .before .before .before .before .before .before .args .pairs .now) (4 * (c .before .loop .i - 1) + 3) 0 < 33
-few c = omega (arith, c .before .before .before .before .before .before .before .before .pre .2 .2 .recorded .sized (c .before .loop .i - 1) (within c), c .before .before .before .before .before .before .before .before .pre .2 .2 .most (c .before .loop .i - 1) (within c))
+few : (c : tie.In-loop Inv-loop μ-loop) → getD (start c .args .pairs .now) (4 * (c .before .loop .i - 1) + 3) 0 < 33
+few c = omega (arith, start c .pre .2 .2 .recorded .sized (c .before .loop .i - 1) (within c), start c .pre .2 .2 .most (c .before .loop .i - 1) (within c))
 
 zero-requires : tie.Need-zero-requires Inv-loop μ-loop
 zero-requires c κs = search needs
@@ -40,16 +44,16 @@ sub-i : tie.Need-sub-i Inv-loop μ-loop
 sub-i c = omega arith
 
 is-removable-requires : tie.Need-is-removable-requires Inv-loop μ-loop
-is-removable-requires c κs = (c .before .before .before .before .before .before .before .before .pre .2 .0, c .before .before .before .before .before .before .before .before .pre .2 .1, c .before .before .before .before .before .before .before .before .pre .2 .2, omega (arith, within c))
+is-removable-requires c κs = let p = start c .pre .2 in (p .0, p .1, p .2, omega (arith, within c))
 
 mul-k : tie.Need-mul-k Inv-loop μ-loop
-mul-k c = omega (arith, place (c .before .before) 3 (omega arith), c .before .before .before .before .before .before .before .before .before .before .good .0 .1)
+mul-k c = omega (arith, place (c .before .before) 3 (omega arith), start (c .before .before) .good .0 .1)
 
 add-k : tie.Need-add-k Inv-loop μ-loop
-add-k c = omega (arith, place (c .before .before) 3 (omega arith), c .before .before .before .before .before .before .before .before .before .before .good .0 .1)
+add-k c = omega (arith, place (c .before .before) 3 (omega arith), start (c .before .before) .good .0 .1)
 
 mul-k-2 : tie.Need-mul-k-2 Inv-loop μ-loop
-mul-k-2 c = scaled-fits _ (length (c .before .before .before .before .before .before .before .before .before .before .args .pairs .now)) 8 (place (c .before .before) _ (omega arith)) (c .before .before .before .before .before .before .before .before .before .before .good .0 .1)
+mul-k-2 c = scaled-fits _ (length (start (c .before .before) .args .pairs .now)) 8 (place (c .before .before) _ (omega arith)) (start (c .before .before) .good .0 .1)
 
 shared-slice-read-k : tie.Need-shared-slice-read-k Inv-loop μ-loop
 shared-slice-read-k c = place (c .before .before .before) _ (omega arith)
@@ -61,13 +65,13 @@ slice-read-union : tie.Need-slice-read-union Inv-loop μ-loop
 slice-read-union c = omega (arith, few (c .before .before .before .before), c .before .before .before .before .before .loop .inv .2)
 
 mul-union-2 : tie.Need-mul-union-2 Inv-loop μ-loop
-mul-union-2 c = omega (arith, place (c .before .before .before .before) 3 (omega arith), c .before .before .before .before .before .before .before .before .before .before .before .before .good .0 .1)
+mul-union-2 c = omega (arith, place (c .before .before .before .before) 3 (omega arith), start (c .before .before .before .before) .good .0 .1)
 
 add-union : tie.Need-add-union Inv-loop μ-loop
-add-union c = omega (arith, place (c .before .before .before .before) 3 (omega arith), c .before .before .before .before .before .before .before .before .before .before .before .before .good .0 .1)
+add-union c = omega (arith, place (c .before .before .before .before) 3 (omega arith), start (c .before .before .before .before) .good .0 .1)
 
 mul-union-3 : tie.Need-mul-union-3 Inv-loop μ-loop
-mul-union-3 c = scaled-fits _ (length (c .before .before .before .before .before .before .before .before .before .before .before .before .args .pairs .now)) 8 (place (c .before .before .before .before) _ (omega arith)) (c .before .before .before .before .before .before .before .before .before .before .before .before .good .0 .1)
+mul-union-3 c = scaled-fits _ (length (start (c .before .before .before .before) .args .pairs .now)) 8 (place (c .before .before .before .before) _ (omega arith)) (start (c .before .before .before .before) .good .0 .1)
 
 shared-slice-read-union : tie.Need-shared-slice-read-union Inv-loop μ-loop
 shared-slice-read-union c = place (c .before .before .before .before .before) _ (omega arith)
@@ -92,7 +96,7 @@ loop-less c = omega (arith, c .before .before .before .before .before .before .b
 
 loop-again : tie.Need-loop-again Inv-loop μ-loop
 loop-again c =
-    let a = c .before .before .before .before .before .before .before .before .before .before .before .before .before .before .before .args in
+    let a = start (c .before .before .before .before .before .before .before) .args in
     let l = c .before .before .before .before .before .before .before .before .loop in (
       omega (arith, c .before .before .before .before .before .before .before .loop-test .taken),
       omega (arith, l .inv .1),
@@ -105,7 +109,7 @@ loop-less-2 c = omega (arith, c .before .before .loop-test .taken)
 
 loop-again-2 : tie.Need-loop-again-2 Inv-loop μ-loop
 loop-again-2 c =
-    let a = c .before .before .before .before .before .before .before .before .before .before .args in
+    let a = start (c .before .before) .args in
     let l = c .before .before .before .loop in (
       omega (arith, c .before .before .loop-test .taken),
       omega (arith, l .inv .1),

@@ -6,7 +6,7 @@ use native.Mathlib.Omega.{arith}
 use lib.ListN.{length, drop}
 use lib.Seq.{drop-length}
 use Rattle.molecule.proofs.Lists.{zeros-at}
-use Rattle.state.specs.Scan.{Owners}
+use Rattle.state.specs.Inner.Scan.{Owners}
 use Rattle.state.proofs.Scanning.{owners-none, owners-next}
 use Rattle.state.proofs.scan.owners.Statement.{statement}
 use Rattle.state.proofs.scan.owners.Tie as tie

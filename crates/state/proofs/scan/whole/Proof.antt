@@ -35,7 +35,9 @@ loop-less : tie.Need-loop-less Inv-loop μ-loop
 loop-less c = omega arith
 
 loop-again : tie.Need-loop-again Inv-loop μ-loop
-loop-again c = (omega arith, rw (c .union .ensures) (whole-next (c .before .before .before .before .before .args .pieces .now) (c .before .before .before .loop .i) (c .before .before .before .loop .all) (c .before .before .loop-test .taken) (c .before .before .before .loop .inv .1)))
+loop-again c =
+    let l = c .before .before .before .loop in
+    (omega arith, rw (c .union .ensures) (whole-next (c .before .before .before .before .before .args .pieces .now) (l .i) (l .all) (c .before .before .loop-test .taken) (l .inv .1)))
 
 returns : tie.Need-returns Inv-loop μ-loop
 returns c = whole-done (c .before .before .before .args .pieces .now) (c .before .loop .i) (c .before .loop .all) (omega arith) (c .before .loop .inv .1)

@@ -1,6 +1,6 @@
 -- `tabulate::count::count` meets its contract. Assumes nothing.
 use borrow.Author.Needs.{needs}
-use mathlib.Core.Path.{_≡_, sym, ap, _∙_}
+use mathlib.Core.Path.{sym, ap, _∙_}
 use Rattle.molecule.specs.Verdict.{answerOf}
 use Rattle.tabulate.proofs.Counting.{count-refused, after-refused}
 use Rattle.tabulate.proofs.count.count.Statement.{statement}

@@ -70,8 +70,12 @@ same-length c = search needs
 
 returns-2 : tie.Need-returns-2
 returns-2 c =
-    let a = c .before .before .before .before .args in
-    (beside-named (a .parts .now) (a .p) (a .i) (a .start) (a .count) (c .before .if2 .taken) (omega (arith, c .before .before .before .before .pre .2 .within, c .before .before .before .before .pre .2 .noded .fits)), λ l nodes w. name-new (a .parts .now) (a .p) l nodes (a .i) (a .start) (a .count) w (omega (arith, c .before .before .if1 .left)) (c .before .if2 .taken))
+    let a = c .before .before .before .before .args in (
+      beside-named (a .parts .now) (a .p) (a .i) (a .start) (a .count) (c .before .if2 .taken)
+          (omega (arith, c .before .before .before .before .pre .2 .within, c .before .before .before .before .pre .2 .noded .listed .fits)),
+      λ l nodes w. name-new (a .parts .now) (a .p) l nodes (a .i) (a .start) (a .count) w (omega (arith, c .before .before .if1 .left))
+          (c .before .if2 .taken),
+    )
 
 add-result-2 : tie.Need-add-result-2
 add-result-2 c = search needs

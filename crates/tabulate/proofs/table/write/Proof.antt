@@ -3,8 +3,8 @@ use borrow.Author.Needs.{needs}
 use mathlib.Core.Path.{refl, sym, ap, _∙_}
 use Prim.Native.Nat.{ℕ, _+_, _-_, _≤_}
 use native.Mathlib.Omega.{arith}
-use Rattle.matches.specs.Descending.{withEach}
-use Rattle.matches.specs.Written.{belowIn, matchesIn}
+use Rattle.matches.specs.Inner.Descending.{withEach}
+use Rattle.matches.specs.Inner.Written.{belowIn, matchesIn}
 use Rattle.tabulate.proofs.Writing.{Writing, writing-start, writing-length, writing-left, writing-more, writing-count, writing-front, each-length, descend-step, descend-none, node-room}
 use Rattle.tabulate.proofs.table.write.Statement.{statement}
 use Rattle.tabulate.proofs.table.write.Tie as tie

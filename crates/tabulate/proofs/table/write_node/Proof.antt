@@ -1,11 +1,12 @@
 -- `tabulate::table::write_node` meets its contract: what is written, and the matches with the nodes below y, are all. Assumes nothing.
 use borrow.Author.Needs.{needs}
-use mathlib.Core.Path.{refl, sym, ap, _∙_}
-use mathlib.Core.List.{[], _∷_}
-use Prim.Native.Nat.{ℕ, _+_, _-_, _≤_}
+use mathlib.Core.Path.{_≡_, refl, sym, ap, _∙_}
+use mathlib.Core.List.{[], _∷_, _++_}
+use Prim.Native.Nat.{ℕ, _+_, _*_, _-_, _≤_}
 use native.Mathlib.Omega.{arith}
-use Rattle.matches.specs.Descending.{withEach}
-use Rattle.matches.specs.Written.{startIn, belowIn}
+use lib.ListN.{length}
+use Rattle.matches.specs.Inner.Descending.{withEach}
+use Rattle.matches.specs.Inner.Written.{startIn, belowIn}
 use Rattle.tabulate.proofs.Writing.{Writing, leftOf, writing-start, writing-length, writing-room, writing-skip, writing-more, writing-count, writing-is, left-none, left-hit, left-past, each-length}
 use Rattle.tabulate.proofs.table.write_node.Statement.{statement}
 use Rattle.tabulate.proofs.table.write_node.Tie as tie
@@ -15,6 +16,28 @@ Inv-loop parts p x pairs₀ m a start k₀ y₀ pairs k y = (startIn parts p x �
 
 abbrev μ-loop : tie.MeasureT-loop
 μ-loop parts p x pairs₀ m a start k₀ y₀ pairs k y = y
+
+-- a turn of the loop
+abbrev entry : tie.In-loop Inv-loop μ-loop → tie.Start Inv-loop μ-loop
+entry c = c .before .before .before .before .before .before
+
+-- node y - 1 is disjoint to node x: they are the next match
+abbrev turn : tie.Then1 Inv-loop μ-loop → tie.In-loop Inv-loop μ-loop
+turn c = c .before .before .before
+
+hit : (c : tie.Then1 Inv-loop μ-loop) → let a = entry (turn c) .args in let w = turn c .before .loop in let s = startIn (a .parts .now) (a .p) (a .x) in
+    leftOf (a .parts .now) (a .x) s (w .y) ≡ (record { larger = a .x; smaller = w .y - 1 } ∷ []) ++ leftOf (a .parts .now) (a .x) s (w .y - 1)
+hit c =
+    let d = turn c in
+    let a = entry d .args in
+    left-hit (a .parts .now) (a .x) (startIn (a .parts .now) (a .p) (a .x)) (d .before .loop .y) (d .loop-test .taken)
+    (sym (c .if1 .taken) ∙ c .before .is-disjoint .ensures)
+
+room : (c : tie.Then1 Inv-loop μ-loop) → 4 * turn c .before .loop .k + 4 ≤ length (turn c .before .loop .pairs)
+room c =
+    let s = entry (turn c) in
+    let a = s .args in
+    writing-room (turn c .before .loop .inv .2) (hit c) (omega (arith, each-length (a .x) (belowIn (a .parts .now) (a .p) (a .x)), s .pre .3))
 
 mul-a : tie.Need-mul-a Inv-loop μ-loop
 mul-a c = search needs
@@ -52,40 +75,37 @@ is-disjoint-requires : tie.Need-is-disjoint-requires Inv-loop μ-loop
 is-disjoint-requires c κs = search needs
 
 put-requires : tie.Need-put-requires Inv-loop μ-loop
-put-requires c κs =
-    let a = c .before .before .before .before .before .before .before .before .before .before .args in
-    let w = c .before .before .before .before .before .loop in
-    let e = left-hit (a .parts .now) (a .x) (startIn (a .parts .now) (a .p) (a .x)) (w .y) (c .before .before .before .before .loop-test .taken) (sym (c .before .if1 .taken) ∙ c .before .before .is-disjoint .ensures) in
-    let n = each-length (a .x) (belowIn (a .parts .now) (a .p) (a .x)) in
-    writing-room (w .inv .2) e (omega (arith, n, c .before .before .before .before .before .before .before .before .before .before .pre .3))
+put-requires c κs = room (c .before)
 
 add-k : tie.Need-add-k Inv-loop μ-loop
 add-k c =
-    let a = c .before .before .before .before .before .before .before .before .before .before .before .before .before .args in
-    let w = c .before .before .before .before .before .before .before .before .loop in
-    let e = left-hit (a .parts .now) (a .x) (startIn (a .parts .now) (a .p) (a .x)) (w .y) (c .before .before .before .before .before .before .before .loop-test .taken) (sym (c .before .before .before .before .if1 .taken) ∙ c .before .before .before .before .before .is-disjoint .ensures) in
-    let n = each-length (a .x) (belowIn (a .parts .now) (a .p) (a .x)) in
-    omega (arith, writing-room (w .inv .2) e (omega (arith, n, c .before .before .before .before .before .before .before .before .before .before .before .before .before .pre .3)), writing-length (w .inv .2), c .before .before .before .before .before .before .before .before .before .before .before .before .before .good .1 .1 .1 .0 .1)
+    let b = c .before .before .before .before in
+    let d = turn b in
+    omega (arith, room b, writing-length (d .before .loop .inv .2), entry d .good .1 .1 .1 .0 .1)
 
 loop-less : tie.Need-loop-less Inv-loop μ-loop
-loop-less c = omega (arith, c .before .before .before .before .before .before .before .loop-test .taken)
+loop-less c = omega (arith, turn (c .before .before .before .before) .loop-test .taken)
 
 loop-again : tie.Need-loop-again Inv-loop μ-loop
 loop-again c =
-    let a = c .before .before .before .before .before .before .before .before .before .before .before .before .before .args in
-    let w = c .before .before .before .before .before .before .before .before .loop in
-    let h = c .before .before .before .before .before .before .before .loop-test .taken in
-    let e = left-hit (a .parts .now) (a .x) (startIn (a .parts .now) (a .p) (a .x)) (w .y) h (sym (c .before .before .before .before .if1 .taken) ∙ c .before .before .before .before .before .is-disjoint .ensures) in
-    (omega arith, omega arith, writing-more (w .inv .2) (record { larger = a .x; smaller = w .y - 1 } ∷ []) _ _ _ e refl (c .before .before .put .ensures))
+    let b = c .before .before .before .before in
+    let d = turn b in
+    let h = d .loop-test .taken in (
+      omega arith,
+      omega arith,
+      writing-more (d .before .loop .inv .2) (record { larger = entry d .args .x; smaller = d .before .loop .y - 1 } ∷ []) _ _ _
+          (hit b) refl (c .before .before .put .ensures),
+    )
 
 loop-less-2 : tie.Need-loop-less-2 Inv-loop μ-loop
 loop-less-2 c = omega (arith, c .before .before .before .loop-test .taken)
 
 loop-again-2 : tie.Need-loop-again-2 Inv-loop μ-loop
 loop-again-2 c =
-    let a = c .before .before .before .before .before .before .before .before .before .args in
-    let w = c .before .before .before .before .loop in
-    let h = c .before .before .before .loop-test .taken in
+    let d = c .before .before .before in
+    let a = entry d .args in
+    let w = d .before .loop in
+    let h = d .loop-test .taken in
     let e = left-past (a .parts .now) (a .x) (startIn (a .parts .now) (a .p) (a .x)) (w .y) h (sym (c .if1 .left) ∙ c .before .is-disjoint .ensures) in
     (omega arith, omega arith, writing-skip (w .inv .2) _ e)
 

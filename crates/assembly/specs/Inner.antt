@@ -1,0 +1,2 @@
+-- Words that contracts of inner functions use. Nothing here needs to be believed.
+pub mod Parts

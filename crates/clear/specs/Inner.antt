@@ -1,0 +1,2 @@
+-- Words of inner contracts and of proofs.
+pub mod Part

@@ -1,0 +1,2 @@
+-- A list with a part of zeros.
+pub mod Inner

@@ -1,0 +1,3 @@
+-- Words of inner contracts.
+pub mod Bucketed
+pub mod Grouped
