@@ -286,6 +286,8 @@ demanded r setting room index matches states trail e = record {
   joined = score.joins-pathway r setting room index matches states trail e;
   joinCount = score.joins-count r setting room index matches states trail e;
   pathway = score.index-pathway r setting room index matches states trail e;
+  fewest = score.index-is-fewest r setting room index matches states trail e;
+  neverFewer = score.index-not-fewer r setting room index matches states trail e;
   entered = score.states-some r setting room index matches states trail e;
   within = score.states-within r setting room index matches states trail e;
 }

@@ -9,7 +9,7 @@ use Rattle.molecule.specs.Lists.{Bytes}
 use Rattle.molecule.specs.Record.{bonds}
 use Rattle.matches.specs.Table.{pairs}
 use Rattle.search.specs.Series.{allowed, saved, seriesScore, leastScore, IsLeastScore}
-use Rattle.search.specs.Pathway.{isPathway, HasPathway, joins}
+use Rattle.search.specs.Pathway.{isPathway, HasPathway, IsFewest, joins}
 
 -- with this memo and budget the record has been answered index, states and the removals of the trail
 pub record Demand3 (r : Bytes) (memo budget index states : ℕ) (trail : List ℕ) : Type 0 where
@@ -36,6 +36,10 @@ pub record Demand3 (r : Bytes) (memo budget index states : ℕ) (trail : List �
   pub joinCount : length (joins r (pairs r) trail) ≡ index
   -- a pathway with exactly that many joins ends in the molecule
   pub pathway : HasPathway r index
+  -- with the memo off the index is the assembly index, the fewest joins of any pathway: one has exactly that many, and none has fewer
+  pub fewest : memo ≡ 0 → IsFewest r index
+  -- with the memo on, or off, the index is never below the fewest joins of any pathway
+  pub neverFewer : (k : ℕ) → IsFewest r k → k ≤ index
   -- the states entered: the root at least, and no more than the budget
   pub entered : 1 ≤ states
   pub within : states ≤ budget

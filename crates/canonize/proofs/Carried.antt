@@ -3,9 +3,9 @@ use mathlib.Core.Path.{_≡_, refl, sym, ap, _∙_}
 use mathlib.Core.Logic.{_⊎_, inl, inr}
 use Prim.Native.Nat.{ℕ, _^_}
 use lib.Bits.{bitOr}
-use Rattle.bitset.specs.Bits.{bit, Sub, members, unions}
+use Rattle.bitset.specs.Bits.{bit, Sub, Disjoint, members, unions}
 use Rattle.bitset.proofs.Laws.{bit-one, member-lt, union-one, union-of}
-use Rattle.bitset.proofs.Members.{sub-of, sub-in, or-left-in, or-right-in, one-is, some-member, not-empty}
+use Rattle.bitset.proofs.Members.{sub-of, sub-in, or-left-in, or-right-in, one-is, some-member, not-empty, apart-of, apart-out}
 use Rattle.molecule.specs.Lists.{Bytes}
 use Rattle.molecule.specs.Record.{bonds, endA, endB}
 use Rattle.molecule.specs.Connected.{Touch, Own, Linked, here, step, Connected}
@@ -97,6 +97,16 @@ module _ (r q : Bytes) (h k : ℕ) (o : Own q k) (w : Isomorphism r h q k) where
 
     pub carried-sub : Sub y k
     carried-sub = sub-of y k (λ j m. let (i, n, e) = c .onto j m in rw (← e) (w .bond-into i (wide i n)))
+
+    -- disjoint parts have disjoint images: no bond is the image of two
+    pub carried-apart : (x′ y′ : ℕ) → Sub x′ h → Carried (w .bond) x′ y′ → Disjoint x x′ → Disjoint y y′
+    carried-apart x′ y′ p′ c′ d =
+        apart-of y y′
+        (λ j m m′.
+        let (i, n, e) = c .onto j m in
+        let (i′, n′, e′) = c′ .onto j m′ in
+        let g : i ≡ i′ = w .bond-one i i′ (wide i n) (sub-in x′ h p′ i′ n′) (e ∙ sym e′) in
+        apart-out x x′ i′ d (sym (ap (bit x) g) ∙ n) n′)
 
     -- the isomorphism of the part and its image
     pub carried-iso : Isomorphism r x q y

@@ -9,7 +9,7 @@ use native.Mathlib.Nat.{mod-lt}
 use native.Mathlib.Omega.{arith}
 use lib.Bits.{bitOr}
 use lib.ListN.{length}
-use Rattle.bitset.specs.Bits.{bit, Sub, size}
+use Rattle.bitset.specs.Bits.{bit, Sub, Disjoint, size}
 use Rattle.bitset.proofs.Laws.{member-lt, size-le, one-sub}
 use Rattle.bitset.proofs.Decide.{sets, v, or, sub}
 use Rattle.molecule.specs.Lists.{Bytes}
@@ -26,7 +26,7 @@ use Rattle.canonize.proofs.OnStrings.{label-document}
 use Rattle.canonize.proofs.Facts.{label-length as tree-length, label-size as tree-size}
 use Rattle.canonize.proofs.OfRecords.{label-fits as tree-fits}
 use Rattle.canonize.proofs.Fragments.{fragment-bonds, fragment-clean}
-use Rattle.canonize.proofs.Carried.{Carried, image, image-carried, pair-carried, touch-goes, carried-sub, carried-iso, carried-connected}
+use Rattle.canonize.proofs.Carried.{Carried, image, image-carried, pair-carried, touch-goes, carried-sub, carried-apart, carried-iso, carried-connected}
 pub use Rattle.canonize.proofs.Isomorphic.{label-iff}
 pub use Rattle.canonize.proofs.Sorting.{lexle-turn, sort-perm, sort-canonical, perm-of-sort}
 pub use Rattle.canonize.proofs.Comparing.{same-refl, same-is, same-iff}
@@ -55,6 +55,14 @@ module _ (r q : Bytes) (s t : ℕ) (a : check r ≡ accepted) (b : check q ≡ a
 
 -- ---- parts of two sets with one label
 
+-- y is a fragment of q inside k, with the label and the size of x, a set of r
+pub record LikeIn (r q : Bytes) (k x y : ℕ) : Type 0 where
+  pub whole : Connected q y
+  pub own : Own q y
+  pub inside : Sub y k
+  pub labels : label r x ≡ label q y
+  pub sizes : size x ≡ size y
+
 module _ (r q : Bytes) (h k : ℕ) (a : check r ≡ accepted) (b : check q ≡ accepted) (o : Own r h) (p : Own q k) (c : Connected r h) (d : Connected q k) (e : label r h ≡ label q k) where
   iso : Isomorphism r h q k
   iso = label-iff r q h k a b o p c d .0 e
@@ -65,16 +73,29 @@ module _ (r q : Bytes) (h k : ℕ) (a : check r ≡ accepted) (b : check q ≡ a
       label-iff r q x y a b (own-sub r x h m o) (own-sub q y k (carried-sub r q h k p iso x y m g) p) u (carried-connected r q h k p iso x y m g u)
       .1 (carried-iso r q h k p iso x y m g)
 
-  -- every connected part of the one has its like in the other
-  pub parts-transport : (x : ℕ) → Connected r x → Sub x h → (y : ℕ) × Connected q y × Own q y × Sub y k × (label r x ≡ label q y) × (size x ≡ size y)
-  parts-transport x u m =
+  -- the image of a connected part is its like
+  image-like : (x : ℕ) → Connected r x → Sub x h → LikeIn r q k x (image (iso .bond) x)
+  image-like x u m =
       let y : ℕ = image (iso .bond) x in
       let g = image-carried (iso .bond) x in
       let n : Sub y k = carried-sub r q h k p iso x y m g in
       let z : Connected q y = carried-connected r q h k p iso x y m g u in
       let w : Own q y = own-sub q y k n p in
       let l : label r x ≡ label q y = image-label x y m g u in
-      (y, z, w, n, l, label-size r q x y a b (own-sub r x h m o) w u z l)
+      record { whole = z; own = w; inside = n; labels = l; sizes = label-size r q x y a b (own-sub r x h m o) w u z l }
+
+  -- every connected part of the one has its like in the other
+  pub parts-transport : (x : ℕ) → Connected r x → Sub x h → (y : ℕ) × LikeIn r q k x y
+  parts-transport x u m = (image (iso .bond) x, image-like x u m)
+
+  -- and two that are disjoint have disjoint ones
+  pub halves-transport : (x y : ℕ) → Connected r x → Connected r y → Sub x h → Sub y h → Disjoint x y
+      → (x′ y′ : ℕ) × LikeIn r q k x x′ × LikeIn r q k y y′ × Disjoint x′ y′
+  halves-transport x y u z m n d =
+      let f : ℕ → ℕ = iso .bond in
+      let apart : Disjoint (image f x) (image f y) =
+      carried-apart r q h k p iso x (image f x) m (image-carried f x) y (image f y) n (image-carried f y) d in
+      (image f x, image f y, image-like x u m, image-like y z n, apart)
 
   -- so have two bonds that touch
   pub pair-transport : (i j : ℕ) → bit h i ≡ 1 → bit h j ≡ 1 → Touch r i j

@@ -133,12 +133,12 @@ module _ (r : Bytes) where
           z .0,
           record {
             one = w .1;
-            other = record { whole = z .1; own = z .2; many = sym (z .5) ∙ w .1 .many };
-            apart = parts-apart x y (w .0) (z .0) (m .apart) (w .2) (z .3);
-            labels = z .4;
+            other = record { whole = z .1 .whole; own = z .1 .own; many = sym (z .1 .sizes) ∙ w .1 .many };
+            apart = parts-apart x y (w .0) (z .0) (m .apart) (w .2) (z .1 .inside);
+            labels = z .1 .labels;
           },
           w .2,
-          z .3,
+          z .1 .inside,
         )
 
     whole-next : (k : ℕ) (t : Table) (ps : List ℕ) → 1 ≤ k → Round r k t ps → Whole k t ps → Whole (suc k) (next r t ps) (newest r t ps)

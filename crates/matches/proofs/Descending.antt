@@ -23,10 +23,11 @@ use Rattle.canonize.proofs.Laws.{same-iff, le-antisym}
 use Rattle.molecule.proofs.Perms.{Distinct, keep-mem, keep-intro}
 use Rattle.matches.specs.Table.{Match, notBelow, matchTable}
 use Rattle.matches.specs.Laws.{Twins}
-use Rattle.matches.specs.Inner.Descending.{countdown, withEach, descend, apartBelow, Akin, Starts}
+use Rattle.matches.specs.Inner.Descending.{countdown, withEach, descend, apartBelow, Starts}
+use Rattle.matches.specs.Inner.Ranks.{Akin, Precedes}
 use Rattle.matches.proofs.Noting.{distinct-at, Above, above-of}
 use Rattle.matches.proofs.Pairing.{Names, Matched}
-use Rattle.matches.proofs.Sizes.{Precedes, precedes-size, twins-differ, unsorted, unsorted-sane}
+use Rattle.matches.proofs.Sizes.{precedes-size, twins-differ, unsorted, unsorted-sane}
 use Rattle.matches.proofs.Listed.{nodes, sorted, nodes-are, matches-are, sorted-has, sorted-sound, sorted-distinct, sorted-descends}
 use Rattle.matches.proofs.Complete.{all-matched}
 

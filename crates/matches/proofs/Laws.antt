@@ -17,14 +17,18 @@ use Rattle.molecule.proofs.Lists.{Ordered}
 use Rattle.molecule.proofs.Perms.{Distinct}
 use Rattle.matches.specs.Table.{Table, Pair, pair, sizeOf, pairUp, singles, matchTable, pairs}
 use Rattle.matches.specs.Laws.{Twins, IsMatch, Laws}
-use Rattle.matches.proofs.Sizes.{Precedes, unsorted-sane}
+use Rattle.matches.specs.Inner.Ranks.{Akin, Precedes}
+use Rattle.matches.specs.Inner.Descending.{Starts}
+use Rattle.matches.proofs.Sizes.{unsorted-sane}
 use Rattle.matches.proofs.Listed.{nodes, sorted-distinct, matches-are, m1, m2}
 use Rattle.matches.proofs.Complete.{m3, all-listed}
-use Rattle.matches.specs.Inner.Descending.{Akin, Starts}
 use Rattle.matches.proofs.Descending.{groupStart, together, group-starts}
 -- there are as many pairs as matches; rows 9 and 10
 pub use Rattle.matches.proofs.Recorded.{recorded-front, pairs-length}
 pub use Rattle.matches.proofs.RowLaws.{parts-over, pairs-over, all-fit, table-refused, table-fits}
+-- sets by size and label, and the order of matches by them
+pub use Rattle.matches.proofs.Ranks.{akin-sym, akin-trans, precedes-akin, akin-precedes, precedes-refl, precedes-both, smaller-before, before-size, Last, last-one, before-in, before-has, before-perm, before-fewer}
+pub use Rattle.matches.proofs.Order.{MatchOf, firsts-order, seconds-order, twins-match}
 -- for whoever builds the table, as it grows and as it is written down
 pub use Rattle.matches.proofs.Noting.{distinct-at}
 pub use Rattle.matches.proofs.ByLabel.{before-differ, groups-every}

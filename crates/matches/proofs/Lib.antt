@@ -6,6 +6,8 @@ pub mod Once
 pub mod Sizes
 pub mod Listed
 pub mod Complete
+pub mod Ranks
+pub mod Order
 pub mod Descending
 pub mod RowLaws
 pub mod Recorded

@@ -13,9 +13,10 @@ use Rattle.molecule.proofs.Lists.{mem-at, at-mem, map-at, Ordered, ordered-at, 
 use Rattle.molecule.proofs.Perms.{perm-mem, Distinct, distinct-perm}
 use Rattle.matches.specs.Table.{Match, notBelow, matchTable, Pair, pairsOf, pair, sizeOf, pairs}
 use Rattle.matches.specs.Laws.{Twins, IsMatch}
+use Rattle.matches.specs.Inner.Ranks.{Precedes}
 use Rattle.matches.proofs.Noting.{Above, above-of, sort-descends}
 use Rattle.matches.proofs.Pairing.{Matched, Sound}
-use Rattle.matches.proofs.Sizes.{Precedes, precedes-size, unsorted, unsorted-sane}
+use Rattle.matches.proofs.Sizes.{precedes-size, unsorted, unsorted-sane}
 
 module _ (r : Bytes) where
   -- the nodes, and the matches sorted
@@ -58,27 +59,28 @@ module _ (r : Bytes) where
 
   -- ---- the list of pairs
 
-  name : Match → Pair
+  -- the fragments of a match
+  unfoldable pub name : Match → Pair
   name m = record { h1 = getD nodes (m .larger) 0; h2 = getD nodes (m .smaller) 0 }
 
   pairs-are : pairs r ≡ map name sorted
   unfolding matchTable pairsOf name sorted
   pairs-are = refl
 
-  none : Match
+  pub none : Match
   none = record { larger = 0; smaller = 0 }
 
   -- match i
-  match : ℕ → Match
+  unfoldable pub match : ℕ → Match
   match i = getD sorted i none
 
-  pairs-at : (i : ℕ) → i < length (pairs r) → (i < length sorted) × (pair (pairs r) i ≡ name (match i))
+  pub pairs-at : (i : ℕ) → i < length (pairs r) → (i < length sorted) × (pair (pairs r) i ≡ name (match i))
   unfolding pair match
   pairs-at i h =
       let l : i < length sorted = omega (arith, ap length pairs-are, length-map sorted name) in
       (l, ap (λ (z : List Pair). getD z i (record { h1 = 0; h2 = 0 })) pairs-are ∙ map-at name none (record { h1 = 0; h2 = 0 }) sorted i l)
 
-  match-sound : (i : ℕ) → i < length sorted → Sound r nodes (match i)
+  pub match-sound : (i : ℕ) → i < length sorted → Sound r nodes (match i)
   unfolding match
   match-sound i h = sorted-sound (getD sorted i none) (at-mem none sorted i h)
 

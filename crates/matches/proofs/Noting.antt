@@ -46,6 +46,10 @@ number-is l x m = go (decLt (numberOf l x) (length l))
     go (yes h) = (h, eqb-true (getD l (numberOf l x) 0) x (first-hit p (length l) h))
     go (no h) = absurd (true≢false (sym (eq-eqb (getD l (w .0) 0) x (w .2)) ∙ first-none p (length l) (w .0) (omega arith) (w .1)))
 
+-- where no element stands twice, an element's number is where it stands
+pub number-at : (l : List ℕ) → Distinct l → (k : ℕ) → k < length l → numberOf l (getD l k 0) ≡ k
+number-at l d k h = let w = number-is l (getD l k 0) (at-mem 0 l k h) in distinct-at 0 l d (numberOf l (getD l k 0)) k (w .0) h (w .1)
+
 -- ---- noting
 
 -- the list with something at its end, which is x; and x is there

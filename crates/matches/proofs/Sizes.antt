@@ -1,7 +1,6 @@
 -- Size by size: candidates are the fragments of one bond more, nodes ascend by size and then by label, and the matches of a table are of twins. Assumes nothing.
 use mathlib.Core.Path.{_≡_, refl, sym, ap, _∙_, subst}
-use mathlib.Core.Logic.{_⊎_, inl, inr, _≢_, ⊎-elim}
-use mathlib.Core.Bool.{true}
+use mathlib.Core.Logic.{inl, inr, _≢_, ⊎-elim}
 use mathlib.Core.List.{List, [], _∷_, _++_, map, List·Memᴰ as Mem, List·Memᴰ·head as m-head, List·Memᴰ·not-nil as not-nil, List·Memᴰ·append-cases as mem-cases, Memᴰ·cast as mem-cast, Memᴰ·map as mem-map, Memᴰ·of-map as mem-of-map}
 use Prim.Native.Nat.{ℕ, zero, suc, _+_, _^_, _≤_, _<_, max}
 use native.Mathlib.Omega.{arith}
@@ -20,18 +19,14 @@ use Rattle.molecule.proofs.Growing.{around-in}
 use Rattle.molecule.proofs.Touching.{touch-in}
 use Rattle.molecule.proofs.Components.{link-wide, link-join, link-sym}
 use Rattle.molecule.proofs.Lists.{at-mem, Ordered, ordered-all, numbers-bounds, numbers-mem}
-use Rattle.canonize.specs.Strings.{lexLe}
 use Rattle.canonize.specs.Label.{label}
 use Rattle.molecule.proofs.Perms.{Distinct, numbers-distinct}
 use Rattle.matches.specs.Table.{Match, Table, extended, candidates, extend, sizes, singles}
 use Rattle.matches.specs.Laws.{Twins}
+use Rattle.matches.specs.Inner.Ranks.{Precedes}
 use Rattle.matches.proofs.Noting.{all-in, all-has, all-distinct}
 use Rattle.matches.proofs.Pairing.{Matched, AllSound, Grows, grows-refl, grows-trans, grows-by, extend-grows, extend-needs, extend-sound, extend-distinct, extend-matched, extend-ordered}
 use Rattle.matches.proofs.Once.{extend-once}
-
--- a node comes before another: it is smaller, or of one size with it and its label not the later one (single bonds go by their numbers)
-abbrev pub Precedes : Bytes → ℕ → ℕ → Type 0
-Precedes r x y = (size x < size y) ⊎ ((size x ≡ size y) × (2 ≤ size x → lexLe (label r x) (label r y) ≡ true))
 
 pub precedes-size : (r : Bytes) (x y : ℕ) → Precedes r x y → size x ≤ size y
 precedes-size r x y (inl h) = omega arith

@@ -29,17 +29,22 @@ star elements n = (suc n ∷ n ∷ []) ++ elements ++ starEnds 0 n ++ times n 1
 abbrev pub both : ℕ → ℕ → Pair
 both x y = record { h1 = x; h2 = y }
 
--- tables: a member becomes a node when first matched, so that in the chain of 5 the nodes are, after the bonds, 3, 12, 24 and 6; an oxygen at the end leaves no match
+-- tables: a member becomes a node when first matched, so that in the chain of 5 the nodes are, after the bonds, 3, 12, 24 and 6; an oxygen at the end leaves no match.
+-- Matches go by the larger node and then by the smaller: in the chain of 7, where of size 2 the nodes are 3, 12, 24, 48, 96 and 6, match (96, 3) comes before (48, 12)
 pub record Tables : Type 0 where
   pub chain-4 : pairs (chain 4) ≡ both 12 3 ∷ []
   pub chain-5-nodes : matchTable (chain 5) .nodes ≡ 1 ∷ 2 ∷ 4 ∷ 8 ∷ 16 ∷ 3 ∷ 12 ∷ 24 ∷ 6 ∷ []
   pub chain-5 : pairs (chain 5) ≡ both 6 24 ∷ both 24 3 ∷ both 12 3 ∷ []
+  pub chain-7 :
+      pairs (chain 7)
+      ≡ both 14 112 ∷ both 112 7 ∷ both 56 7
+      ∷ both 6 96 ∷ both 6 48 ∷ both 6 24 ∷ both 96 24 ∷ both 96 12 ∷ both 96 3 ∷ both 48 12 ∷ both 48 3 ∷ both 24 3 ∷ both 12 3 ∷ []
   pub star-4 : pairs (star (times 5 6) 4) ≡ both 6 9 ∷ both 10 5 ∷ both 12 3 ∷ []
   pub oxygen : pairs (set (chain 4) 6 8) ≡ []
 
 pub tables : Tables
 unfolding compute starEnds star
-tables = record { chain-4 = refl; chain-5-nodes = refl; chain-5 = refl; star-4 = refl; oxygen = refl }
+tables = record { chain-4 = refl; chain-5-nodes = refl; chain-5 = refl; chain-7 = refl; star-4 = refl; oxygen = refl }
 
 -- how many matches some small molecules of the public list have
 pub counts :

@@ -1,19 +1,20 @@
--- Lists of pieces and of numbers: what lies inside, flat lists, sums, sets that are apart. Assumes nothing.
+-- Lists of pieces and of numbers: what lies inside, flat lists, sums, sets that are apart, sorting. Assumes nothing.
 use mathlib.Core.Path.{_≡_, refl, sym, _∙_}
 use mathlib.Core.Bool.{Bool, true, false, true≢false}
-use mathlib.Core.Logic.{_⊎_, inl, inr}
-use mathlib.Core.List.{List, [], _∷_, _++_, flatMap, List·Memᴰ as Mem, List·Memᴰ·cases-cons as mem-cons, List·Memᴰ·not-nil as not-nil, List·Memᴰ·head as m-head, List·Memᴰ·tail as m-tail, List·Memᴰ·append-cases as mem-cases, Memᴰ·append-left as mem-left, Memᴰ·append-right as mem-right}
+use mathlib.Core.Logic.{_⊎_, inl, inr, ⊎-elim}
+use mathlib.Core.List.{List, [], _∷_, _++_, flatMap, List·Memᴰ as Mem, List·Memᴰ·cases-cons as mem-cons, List·Memᴰ·not-nil as not-nil, List·Memᴰ·head as m-head, List·Memᴰ·tail as m-tail, List·Memᴰ·append-cases as mem-cases, List·Memᴰ·eq-of-singleton as mem-one, Memᴰ·append-left as mem-left, Memᴰ·append-right as mem-right}
 use Prim.Native.Nat.{ℕ, _+_, _≤_}
 use native.Mathlib.Omega.{arith}
 use lib.Bits.{bitAnd}
-use borrow.Author.Tests.{eqb-true, eq-eqb}
+use lib.Dec.{leb}
+use borrow.Author.Tests.{eqb-true, eq-eqb, leb-true, leb-false, le-leb}
 use Rattle.bitset.specs.Bits.{Sub, Disjoint, isSub}
 use Rattle.bitset.proofs.Bools.{two}
 use Rattle.bitset.proofs.Laws.{sub-trans}
 use Rattle.bitset.proofs.Decide.{sets, v, sub, apart}
-use Rattle.molecule.specs.Lists.{filter}
+use Rattle.molecule.specs.Lists.{filter, sortBy}
 use Rattle.molecule.specs.Connected.{Apart}
-use Rattle.molecule.proofs.Lists.{any-some, any-none}
+use Rattle.molecule.proofs.Lists.{any-some, any-none, Ordered, ordered-by, sort-ordered}
 use Rattle.bounds.specs.Numbers.{sumOf}
 use Rattle.bounds.specs.Inner.Removals.{Inside, PiecesWithin}
 use Rattle.bounds.proofs.Numbers.{sum-append}
@@ -99,3 +100,35 @@ apart-flat g (p ∷ P) h k a =
     (λ c d i j.
     let w = flat-mem g P d j in
     apart-parts p (w .0) c d (a .0 (w .0) (w .1)) (k p c (m-head refl) i) (k (w .0) d (m-tail (w .1)) (w .2)))
+
+-- sets of two lists that are apart together: those of each are apart, and so are those of the one from those of the other
+pub apart-left : (l m : List ℕ) → Apart (l ++ m) → Apart l
+apart-left [] m a = tt
+apart-left (x ∷ l) m a = (λ y i. a .0 y (mem-left m i), apart-left l m (a .1))
+
+pub apart-right : (l m : List ℕ) → Apart (l ++ m) → Apart m
+apart-right [] m a = a
+apart-right (x ∷ l) m a = apart-right l m (a .1)
+
+pub apart-across : (l m : List ℕ) → Apart (l ++ m) → (x y : ℕ) → Mem x l → Mem y m → Disjoint x y
+apart-across [] m a x y i j = absurd (not-nil i)
+apart-across (z ∷ l) m a x y i j =
+    ⊎-elim (λ (e : x ≡ z). rw e (a .0 y (mem-right l j))) (λ (k : Mem x l). apart-across l m (a .1) x y k j) (mem-cons i)
+
+pub two-apart : (x y : ℕ) → Disjoint x y → Apart (x ∷ y ∷ [])
+two-apart x y d = (λ z i. let e : z ≡ y = mem-one i in rw e d, (λ z i. absurd (not-nil i), tt))
+
+-- ---- a list sorted by a number of each element, the largest first
+
+module _ (f : ℕ → ℕ) where
+  abbrev pub down : ℕ → ℕ → Bool
+  down x y = leb (f y) (f x)
+
+  pub sorted-down : (l : List ℕ) → Ordered (λ x y. f y ≤ f x) (sortBy down l)
+  sorted-down l = ordered-by (λ x y. down x y ≡ true) (λ x y. f y ≤ f x) (sortBy down l) (λ x y e. leb-true (f y) (f x) e) (sort-ordered down total trans l)
+    where
+      total : (x y : ℕ) → down x y ≡ false → down y x ≡ true
+      total x y e = le-leb (f x) (f y) (omega (arith, leb-false (f y) (f x) e))
+
+      trans : (x y z : ℕ) → down x y ≡ true → down y z ≡ true → down x z ≡ true
+      trans x y z d e = le-leb (f z) (f x) (omega (arith, leb-true (f y) (f x) d, leb-true (f z) (f y) e))

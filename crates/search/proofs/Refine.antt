@@ -6,19 +6,19 @@ use mathlib.Core.Logic.{_⊎_, inl, inr, ⊎-elim}
 use mathlib.Core.List.{List, [], _∷_, flatMap, List·Memᴰ as Mem, List·Memᴰ·cases-cons as mem-cons, List·Memᴰ·not-nil as not-nil, List·Memᴰ·head as m-head, List·Memᴰ·tail as m-tail, List·Memᴰ·append-cases as mem-cases, List·Memᴰ·eq-of-singleton as mem-one, Memᴰ·append-left as mem-left, Memᴰ·append-right as mem-right}
 use Prim.Native.Nat.{ℕ, suc, _-_, _≤_, _<_}
 use native.Mathlib.Omega.{arith}
-use lib.Bits.{bitAnd, and-self}
+use lib.Bits.{bitAnd, bitOr, and-self}
 use lib.Dec.{leb, ltb, eqb}
 use lib.ListN.{length}
 use borrow.Author.Tests.{leb-true, ltb-true, le-leb, lt-ltb, eq-eqb}
-use Rattle.bitset.specs.Bits.{bit, Sub, diff, Ascending}
+use Rattle.bitset.specs.Bits.{bit, Sub, Disjoint, diff, size, Ascending}
 use Rattle.bitset.proofs.Bools.{and-true}
 use Rattle.bitset.proofs.Laws.{sub-trans, or-cases, unions-one, unions-of}
 use Rattle.bitset.proofs.Members.{sub-of, or-left-in, or-right-in, diff-sub}
-use Rattle.bitset.proofs.Decide.{sets, v, and, less, or, sub}
+use Rattle.bitset.proofs.Decide.{sets, v, and, less, or, sub, apart}
 use Rattle.molecule.specs.Lists.{Bytes, numbersFrom, filter}
 use Rattle.molecule.specs.Record.{allBonds}
 use Rattle.molecule.specs.Check.{accepted, check}
-use Rattle.molecule.specs.Connected.{Apart}
+use Rattle.molecule.specs.Connected.{Connected, Apart}
 use Rattle.molecule.proofs.Perms.{keep-mem, keep-intro}
 use Rattle.molecule.proofs.Lists.{numbers-bounds, numbers-mem}
 use Rattle.matches.specs.Table.{Pair, pair, sizeOf}
@@ -46,6 +46,10 @@ diff-mono c x p s = sets (sub (v 0) (less (v 1) (v 3)) ∷ sub (v 1) (v 2) ∷ [
 
 diff-swap : (c p x s : ℕ) → Sub c (diff p s) → Sub c x → Sub c (diff x s)
 diff-swap c p x s = sets (sub (v 0) (less (v 1) (v 3)) ∷ sub (v 0) (v 2) ∷ []) (sub (v 0) (less (v 2) (v 3))) (c ∷ p ∷ x ∷ s ∷ []) tt
+
+diff-misses : (y p a b : ℕ) → Sub y p → Disjoint y a → Disjoint y b → Sub y (diff p (bitOr a b))
+diff-misses y p a b =
+    sets (sub (v 0) (v 1) ∷ apart (v 0) (v 2) ∷ apart (v 0) (v 3) ∷ []) (sub (v 0) (less (v 1) (or (v 2) (v 3)))) (y ∷ p ∷ a ∷ b ∷ []) tt
 
 sub-and : (c p s : ℕ) → Sub c p → Sub c s → Sub c (bitAnd p s)
 sub-and c p s = sets (sub (v 0) (v 1) ∷ sub (v 0) (v 2) ∷ []) (sub (v 0) (and (v 1) (v 2))) (c ∷ p ∷ s ∷ []) tt
@@ -170,6 +174,16 @@ module _ (r : Bytes) (ok : check r ≡ accepted) (ms : List Pair) where
   -- so they go on holding bonds of the record
   pub remove-within : (P : List ℕ) (m : ℕ) → PiecesWithin (allBonds r) P → Inside (pair ms m .h1) P → PiecesWithin (allBonds r) (remove r ms P m)
   remove-within P m W h = refines-within (allBonds r) (remove-shrinks P m W h) W
+
+  -- a fragment of two bonds or more that misses both fragments of a match stays inside a piece
+  pub remove-keeps : (P : List ℕ) (m y : ℕ) → PiecesWithin (allBonds r) P → Connected r y → 2 ≤ size y → Disjoint y (pair ms m .h1) → Disjoint y (pair ms m .h2)
+      → Inside y P → Inside y (remove r ms P m)
+  unfolding struck
+  remove-keeps P m y W k t d e i =
+      let p : ℕ = i .0 in
+      let s : ℕ = struck ms m in
+      let w = big-covers r ok (diff p s) (diff-within p s (allBonds r) (W p (i .1))) y k t (diff-misses y p (pair ms m .h1) (pair ms m .h2) (i .2) d e) in
+      (w .0, remove-mem r ms P m p (w .0) (i .1) (w .1), w .2)
 
   -- S1: where X refines P, what is left of X after a removal refines what is left of P.
   -- A big component of what is left of a piece of X is a fragment of what is left of a piece of P, so it lies in a big component there

@@ -22,7 +22,7 @@ use Rattle.matches.proofs.Laws.{table-laws, pairs-length}
 use Rattle.search.specs.Setting.{Setting, hasMemo, Room, memoRoom}
 use Rattle.search.specs.Search.{Run, Outcome, answers, halts, search}
 use Rattle.search.specs.Series.{allowed, seriesScore, leastScore, IsLeastScore}
-use Rattle.search.specs.Pathway.{isPathway, HasPathway, joins}
+use Rattle.search.specs.Pathway.{isPathway, HasPathway, IsFewest, joins}
 use Rattle.search.specs.Answer.{entryAnswer, scored, turnedBack, searched, scoreAnswer}
 use Rattle.search.specs.Answer.{Finished}
 use Rattle.search.specs.Series.{saved}
@@ -35,6 +35,8 @@ use Rattle.search.proofs.Ends.{search-ends}
 use Rattle.search.proofs.Numbers.{allowed-length, allowed-fewer, series-exact}
 use Rattle.search.proofs.Counting.{search-counts}
 use Rattle.search.proofs.Pathways.{series-pathway, series-length, one-bond}
+-- of an accepted record: no pathway has fewer joins than the least score, and the least score is the fewest joins
+pub use Rattle.search.proofs.Fewest.{pathway-series, fewest, least-is-fewest, fewest-is}
 
 -- none of rows 1 to 8: rows 1 to 6 accept the record, and the trail has 32 numbers or more
 pub entry-says : (r : Bytes) (setting : Setting) (room : Room) → entryAnswer r setting room ≡ accepted → (check r ≡ accepted) × (32 ≤ room .trail)
@@ -187,6 +189,17 @@ module _ (r : Bytes) (setting : Setting) (room : Room) (index matches states : �
   -- so there is a pathway with exactly index joins
   pub index-pathway : HasPathway r index
   index-pathway = record { path = joins r (pairs r) trail; isOne = joins-pathway; joinCount = joins-count }
+
+  -- ---- no pathway has fewer joins
+  -- Out of every pathway comes an allowed series that scores at most its joins (Owing, Fewest). So the least score is the fewest joins of any pathway
+
+  -- with the memo off, whatever the bounds, the index is the fewest joins of any pathway: the assembly index
+  pub index-is-fewest : setting .memo ≡ 0 → IsFewest r index
+  index-is-fewest off = rw (index-is off) (least-is-fewest r (it .ok))
+
+  -- with the memo on or off it is never below that number
+  pub index-not-fewer : (k : ℕ) → IsFewest r k → k ≤ index
+  index-not-fewer k w = omega (arith, fewest-is r (it .ok) k w, index-above)
 
   -- ---- what is counted
 

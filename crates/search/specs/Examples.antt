@@ -1,4 +1,4 @@
--- Document 01, 'Molecules to try': the starred rows as one checked table, by computing; what is lent afterwards; the memo; and demand 3 on six molecules.
+-- Document 01, 'Molecules to try': the starred rows as one checked table, by computing; what is lent afterwards; the memo; demand 3 on six molecules; pathways.
 use mathlib.Core.Path.{_≡_, refl}
 use mathlib.Core.Bool.{Bool, true, false, _&&_}
 use mathlib.Core.List.{List, [], _∷_, _++_, map, flatMap}
@@ -225,3 +225,25 @@ pub record Tests : Type 0 where
 pub tests : Tests
 unfolding compute
 tests = record { four = refl; one = refl; two = refl; short = refl; unready = refl; unmet = refl; overlap = refl }
+
+-- ---- a pathway with more joins than the index, and the series that comes out of it
+
+-- of a chain of 5: bonds 0 and 1 are made, and then bonds 2 and 3, which have their label already
+abbrev pub longer : List Join
+longer = join 1 2 ∷ join 4 8 ∷ join 3 12 ∷ join 15 16 ∷ []
+
+-- Backwards, all bonds fall into 15 and a single bond, and 15 into 3 and 12, which are the fragments of match 2: its removal is the series.
+-- It saves one join, so that it scores 3 where the pathway has 4 joins; and its own joins are a pathway of 3, in which 3 is not made but has the label of 12
+pub record Longer : Type 0 where
+  pub pathway : isPathway (chain 5) longer ≡ true
+  pub joinCount : length longer ≡ 4
+  pub first : pair (pairs (chain 5)) 2 .h1 ≡ 12
+  pub second : pair (pairs (chain 5)) 2 .h2 ≡ 3
+  pub series : allowed (chain 5) (pairs (chain 5)) (2 ∷ []) ≡ true
+  pub score : seriesScore (chain 5) (pairs (chain 5)) (2 ∷ []) ≡ 3
+  pub least : leastScore (chain 5) (pairs (chain 5)) ≡ 3
+  pub shorter : joins (chain 5) (pairs (chain 5)) (2 ∷ []) ≡ join 4 8 ∷ join 12 3 ∷ join 15 16 ∷ []
+
+pub longer-than-index : Longer
+unfolding compute
+longer-than-index = record { pathway = refl; joinCount = refl; first = refl; second = refl; series = refl; score = refl; least = refl; shorter = refl }

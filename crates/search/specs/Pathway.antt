@@ -2,7 +2,7 @@
 use mathlib.Core.Path.{_≡_}
 use mathlib.Core.Bool.{Bool, true, false, not, _&&_, _||_}
 use mathlib.Core.List.{List, [], _∷_, _++_, map, flatMap}
-use Prim.Native.Nat.{ℕ, zero, suc, _^_}
+use Prim.Native.Nat.{ℕ, zero, suc, _^_, _≤_}
 use lib.ListN.{length, getD, take, drop}
 use lib.Bits.{bitOr}
 use lib.Dec.{eqb}
@@ -69,6 +69,11 @@ module _ (r : Bytes) where
     pub path : List Join
     pub isOne : isPathway path ≡ true
     pub joinCount : length path ≡ k
+
+  -- k is the assembly index, the fewest joins of any pathway: one has exactly k, and none has fewer
+  pub record IsFewest (k : ℕ) : Type 0 where
+    pub reached : HasPathway k
+    pub fewest : (js : List Join) → isPathway js ≡ true → k ≤ length js
 
   -- ---- the joins of a series, single bonds kept as pieces
 

@@ -25,7 +25,8 @@ use Rattle.matches.specs.Table.{Group, Table, candidates, groups, extend, sizes
 use Rattle.enumerate.specs.Inner.Bucketed.{Spared, Collected, grownBy}
 use Rattle.enumerate.specs.Inner.Grouped.{groupAt, Keyed, Grouped, Groupable, Around}
 use Rattle.tabulate.specs.Inner.Noded.{nodesAfter, nodesOf, pairsIn, Beside, Groups, Grown}
-use Rattle.matches.specs.Inner.Descending.{Akin, Starts}
+use Rattle.matches.specs.Inner.Ranks.{Akin}
+use Rattle.matches.specs.Inner.Descending.{Starts}
 use Rattle.matches.specs.Inner.Written.{startIn}
 use Rattle.tabulate.specs.Inner.Stage.{tableAt, nodesAt, Stage, Sizing, NextSize}
 use Rattle.matches.proofs.Laws.{before-differ, groups-every}

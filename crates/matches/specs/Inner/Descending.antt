@@ -1,13 +1,12 @@
 -- Matches in descending order, from the last node down, by where the groups of nodes start.
-use mathlib.Core.Path.{_≡_}
 use mathlib.Core.Logic.{_↔_}
 use mathlib.Core.List.{List, [], _∷_, _++_, map}
 use Prim.Native.Nat.{ℕ, zero, suc, _+_, _-_, _≤_, _<_}
 use lib.ListN.{length, getD}
-use Rattle.bitset.specs.Bits.{size, isDisjoint}
+use Rattle.bitset.specs.Bits.{isDisjoint}
 use Rattle.molecule.specs.Lists.{Bytes, filter}
-use Rattle.canonize.specs.Label.{label}
 use Rattle.matches.specs.Table.{Match}
+use Rattle.matches.specs.Inner.Ranks.{Akin}
 
 -- n numbers, down to k
 abbrev pub countdown : ℕ → ℕ → List ℕ
@@ -26,12 +25,6 @@ descend below (suc x) = withEach x (below x) ++ descend below x
 -- the nodes below x in its group, from x − 1 down, that are disjoint from it
 abbrev pub apartBelow : List ℕ → (ℕ → ℕ) → ℕ → List ℕ
 apartBelow l start x = filter (λ y. isDisjoint (getD l x 0) (getD l y 0)) (countdown (start x) (x - start x))
-
--- x and y are of one size, at least 2, and of one label
-pub record Akin (r : Bytes) (x y : ℕ) : Type 0 where
-  pub big : 2 ≤ size x
-  pub sizes : size x ≡ size y
-  pub labels : label r x ≡ label r y
 
 -- start gives each node's group its first number: what is below x and not below start x is of x's group, and nothing else below x is
 abbrev pub Starts : Bytes → List ℕ → (ℕ → ℕ) → Type 0

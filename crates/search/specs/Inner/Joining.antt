@@ -34,9 +34,13 @@ after made [] = made
 after made (j ∷ js) = after (union j ∷ made) js
 
 module _ (r : Bytes) where
+  -- a set of the list has the label of s
+  abbrev pub HasLabel : List ℕ → ℕ → Type 0
+  HasLabel made s = (u : ℕ) × Mem u made × (label r u ≡ label r s)
+
   -- `ready` in words: a single bond, or a set with the label of a union that is made
   abbrev pub Ready : List ℕ → ℕ → Type 0
-  Ready made s = (size s ≡ 1) ⊎ ((u : ℕ) × Mem u made × (label r u ≡ label r s))
+  Ready made s = (size s ≡ 1) ⊎ HasLabel made s
 
   -- `isJoin` in words: two disjoint fragments with a common atom, each ready
   pub record JoinAfter (made : List ℕ) (j : Join) : Type 0 where
@@ -53,6 +57,16 @@ module _ (r : Bytes) where
   abbrev pub JoinsAfter : List ℕ → List Join → Type 0
   JoinsAfter made [] = Unit {0}
   JoinsAfter made (j ∷ js) = JoinAfter made j × JoinsAfter (union j ∷ made) js
+
+  -- u is what a join makes after those whose unions are made
+  pub record MadeBy (made : List ℕ) (u : ℕ) : Type 0 where
+    pub join : Join
+    pub lawful : JoinAfter made join
+    pub is : union join ≡ u
+
+  -- every set of the list is made by a join out of single bonds and labels of the list
+  abbrev pub Made : List ℕ → Type 0
+  Made l = (u : ℕ) → Mem u l → MadeBy l u
 
   -- the last union is p
   abbrev pub EndsWith : List ℕ → List Join → ℕ → Type 0
