@@ -5,8 +5,10 @@ from __future__ import annotations
 import importlib
 import importlib.util
 import os
+import signal
 import subprocess
-from collections.abc import Sequence
+from collections.abc import Iterator, Sequence
+from contextlib import contextmanager
 from pathlib import Path
 
 PACKAGES = {"rdkit": "python3-rdkit", "openpyxl": "python3-openpyxl", "distributed": "python3-distributed"}
@@ -26,17 +28,25 @@ def home() -> Path | None:
     return Path(named) if named else None
 
 
+@contextmanager
+def _left_to_the_tool() -> Iterator[None]:
+    """Ctrl-C does nothing here, and reaches what is started meanwhile as ever."""
+    before = signal.getsignal(signal.SIGINT)
+    if before is not signal.SIG_IGN:
+        signal.signal(signal.SIGINT, lambda *_: None)
+    try:
+        yield
+    finally:
+        signal.signal(signal.SIGINT, before)
+
+
 def _run(tool: str, *words: str) -> None:
     """Runs a tool of the repository. Ctrl-C is for the tool, which ends what it has started."""
     folder = home()
     if folder is None:
         return
-    with subprocess.Popen([str(folder / "tools" / tool), *words], stdin=subprocess.DEVNULL, stdout=2) as process:
-        while process.poll() is None:
-            try:
-                process.wait()
-            except KeyboardInterrupt:
-                continue
+    with _left_to_the_tool(), subprocess.Popen([str(folder / "tools" / tool), *words], stdin=subprocess.DEVNULL, stdout=2) as process:
+        process.wait()
     if process.returncode:
         raise SetupFailed(process.returncode if process.returncode > 0 else 128 - process.returncode)
 
