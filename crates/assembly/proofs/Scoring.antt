@@ -3,12 +3,13 @@ use mathlib.Core.Path.{_≡_, refl, sym, ap, _∙_, subst}
 use mathlib.Core.Bool.{Bool, true, false, _||_}
 use mathlib.Core.Logic.{_⊎_, inl, inr, ⊎-elim}
 use mathlib.Core.List.{List, [], _++_}
-use Prim.Native.Nat.{ℕ, _+_, _-_, _*_, _≤_, _<_}
+use Prim.Native.Nat.{ℕ, _-_, _*_, _≤_, _<_}
 use native.Mathlib.Omega.{arith}
 use lib.ListN.{length, take, drop, replicate, length-take, length-replicate}
 use lib.Seq.{take-at}
 use lib.Dec.{ltb}
 use borrow.Author.Tests.{lt-ltb, le-ltb, le-leb, lt-leb}
+use Rattle.bitset.proofs.Bools.{or-left, or-right}
 use Rattle.molecule.specs.Lists.{Bytes}
 use Rattle.molecule.specs.Check.{Answer, accepted, refused, row, check}
 use Rattle.molecule.specs.Verdict.{numberOf, placeOf}
@@ -54,13 +55,6 @@ fault-early (fault.Code i) = omega arith
 fault-early (fault.Ends i) = omega arith
 fault-early (fault.Unreached v) = omega arith
 
-either-left : (a b : Bool) → a ≡ true → (a || b) ≡ true
-either-left a b e = rw e
-
-either-right : (a b : Bool) → b ≡ true → (a || b) ≡ true
-either-right true b e = refl
-either-right false b e = e
-
 -- what is turned back on rows 1 to 8: the answer, and what is lent as it was
 pub record Early (a : ScoreAnswer) (k p : ℕ) : Type 0 where
   pub answer : turnedBack k p ≡ a
@@ -97,10 +91,10 @@ module _ (r : Bytes) (setting : Setting) (room : Room) where
 
     -- row 7
     pub bounds-back : 3 < setting .bounds → Early (scoreAnswer r setting room) 7 0
-    bounds-back h = row-seven (either-left (ltb 3 (setting .bounds)) (ltb 1 (setting .memo)) (lt-ltb 3 (setting .bounds) h))
+    bounds-back h = row-seven (or-left (ltb 3 (setting .bounds)) (ltb 1 (setting .memo)) (lt-ltb 3 (setting .bounds) h))
 
     pub memo-back : 1 < setting .memo → Early (scoreAnswer r setting room) 7 0
-    memo-back h = row-seven (either-right (ltb 3 (setting .bounds)) (ltb 1 (setting .memo)) (lt-ltb 1 (setting .memo) h))
+    memo-back h = row-seven (or-right (ltb 3 (setting .bounds)) (ltb 1 (setting .memo)) (lt-ltb 1 (setting .memo) h))
 
     module _ (few : setting .bounds ≤ 3) (one : setting .memo ≤ 1) where
       not-seven : (ltb 3 (setting .bounds) || ltb 1 (setting .memo)) ≡ false
@@ -114,10 +108,10 @@ module _ (r : Bytes) (setting : Setting) (room : Room) where
 
       -- row 8
       pub trail-back : room .trail < 32 → Early (scoreAnswer r setting room) 8 0
-      trail-back h = row-eight (either-left (ltb (room .trail) 32) (ltb (room .desk) 4096) (lt-ltb (room .trail) 32 h))
+      trail-back h = row-eight (or-left (ltb (room .trail) 32) (ltb (room .desk) 4096) (lt-ltb (room .trail) 32 h))
 
       pub desk-back : room .desk < 4096 → Early (scoreAnswer r setting room) 8 0
-      desk-back h = row-eight (either-right (ltb (room .trail) 32) (ltb (room .desk) 4096) (lt-ltb (room .desk) 4096 h))
+      desk-back h = row-eight (or-right (ltb (room .trail) 32) (ltb (room .desk) 4096) (lt-ltb (room .desk) 4096 h))
 
       -- none of rows 1 to 8
       pub entry-accepts : 32 ≤ room .trail → 4096 ≤ room .desk → entryAnswer r setting room ≡ accepted

@@ -1,5 +1,6 @@
 -- A set of numbers is the number whose digit i is set where i is a member. Membership is a number, 0 or 1, so that `omega` reasons about it.
--- Intersection is `bitAnd` and union `bitOr` of `lib.Bits`, the set of i alone is `2 ^ i`, and the empty set is 0. Every definition computes on a numeral of any size.
+-- Intersection is `bitAnd` and union `bitOr` of `lib.Bits`, the set of i alone is `2 ^ i`, and the empty set is 0.
+-- Every definition computes on a numeral of any size.
 use mathlib.Core.Path.{_≡_}
 use mathlib.Core.Bool.{Bool, true, false}
 use mathlib.Core.List.{List, [], _∷_, List·Memᴰ}

@@ -19,7 +19,7 @@ use Rattle.bitset.proofs.Decide.{sets, v, and, less, is, sub}
 use Rattle.molecule.specs.Lists.{pick}
 use Rattle.bounds.specs.Numbers.{sumOf}
 use Rattle.bounds.specs.Chain.{Known, Chain, LowerBound}
-use Rattle.bounds.specs.Inner.Removals.{big, Split, Splits, Removal, Step, Series, savings, Fits, AllFit, gain, Small, KnowsSmall}
+use Rattle.bounds.specs.Inner.Removals.{big, Split, Splits, Removal, Step, Series, savings, FitsIn, AllFit, gain, Small, KnowsSmall}
 use Rattle.bounds.specs.Inner.Removals.Series.{done, next}
 use Rattle.bounds.proofs.Numbers.{sum-append, sum-perm}
 use Rattle.bounds.proofs.BoundLaws.{saving-add, saving-few, saving-full, saving-le, saving-one}
@@ -277,16 +277,16 @@ module _ (k F W : ℕ) (two : 2 ≤ k) (within : Sub F W) where
       go (no n) = let e : size h ≡ k = omega (arith, n) in inr (e, f e)
 
   -- so is the first of a removal
-  pub first-small : {P Q : List ℕ} (m : Removal) → Step P m Q → Fits k F W m → Small k F W (m .first)
+  pub first-small : {P Q : List ℕ} (m : Removal) → Step P m Q → FitsIn k F W m → Small k F W (m .first)
   first-small m st f = fragment-small (m .first) (st .two) (f .most) (f .first-in) (f .full-first)
 
   -- and the second
-  pub second-small : {P Q : List ℕ} (m : Removal) → Step P m Q → Fits k F W m → Small k F W (m .second)
+  pub second-small : {P Q : List ℕ} (m : Removal) → Step P m Q → FitsIn k F W m → Small k F W (m .second)
   second-small m st f =
       fragment-small (m .second) (omega (arith, st .two, st .same)) (omega (arith, f .most, st .same)) (f .second-in) (λ e. f .full-second (omega (arith, st .same)))
 
   -- a chain for what is left grows to one for the pieces before, and these pay for that and for what is saved
-  pub step-serves : {P Q : List ℕ} (m : Removal) (L : List ℕ) → Step P m Q → Fits k F W m → Chain L → KnowsSmall k F W L Q
+  pub step-serves : {P Q : List ℕ} (m : Removal) (L : List ℕ) → Step P m Q → FitsIn k F W m → Chain L → KnowsSmall k F W L Q
       → Served k F W L P (size (m .first) - 1 + sumOf (gain k F W) Q)
   step-serves {P} {Q} m L st f c sv =
       let h1 = m .first in

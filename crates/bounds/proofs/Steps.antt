@@ -12,7 +12,7 @@ use Rattle.bitset.proofs.Members.{sub-of, apart-of, apart-out}
 use Rattle.bitset.proofs.Decide.{sets, v, less, or, is, sub, apart}
 use Rattle.molecule.specs.Connected.{Apart}
 use Rattle.bounds.specs.Numbers.{sumOf}
-use Rattle.bounds.specs.Inner.Removals.{big, Split, Splits, Inside, PiecesWithin, whole, Removal, Step, Series, savings}
+use Rattle.bounds.specs.Inner.Removals.{big, Split, Splits, InOnePiece, PiecesWithin, whole, Removal, Step, Series, savings}
 use Rattle.bounds.specs.Inner.Removals.Series.{done, next}
 use Rattle.bounds.proofs.Numbers.{sum-append, sum-perm}
 use Rattle.bounds.proofs.Savings.{mem-perm, big-cases, mem-big, split-size, split-mem}
@@ -83,7 +83,7 @@ map-map f g (x ∷ P) = ap (λ (l : List ℕ). g (f x) ∷ l) (map-map f g P)
 
 -- Code removes the match (h1, h2) so: both are taken from every piece, what is left of each falls into the parts ls, and Q is h1 and
 -- the parts of two or more bonds, in any order. That is a step: h2 and then h1 are put back as parts of their pieces (`put-back`).
-pub step-of : (P : List ℕ) (h1 h2 : ℕ) (ls : List (List ℕ)) (Q : List ℕ) → Apart P → Inside h1 P → Inside h2 P → Disjoint h1 h2 → 2 ≤ size h1 → size h2 ≡ size h1
+pub step-of : (P : List ℕ) (h1 h2 : ℕ) (ls : List (List ℕ)) (Q : List ℕ) → Apart P → InOnePiece h1 P → InOnePiece h2 P → Disjoint h1 h2 → 2 ≤ size h1 → size h2 ≡ size h1
     → Splits (map (λ (p : ℕ). diff (diff p h1) h2) P) ls → List·Permᴰ Q (h1 ∷ big (flatten ls)) → Step P (record { first = h1; second = h2 }) Q
 step-of P h1 h2 ls Q a i j d two same w e =
     let P1 = map (λ (p : ℕ). diff p h1) P in
@@ -106,7 +106,7 @@ splits-map f g [] h = tt
 splits-map f g (p ∷ P) h = (h p (List·Memᴰ·head refl), splits-map f g P (λ q i. h q (List·Memᴰ·tail i)))
 
 -- the same for a function that gives the parts of what is left of each piece
-pub step-remove : (parts : ℕ → List ℕ) (P : List ℕ) (h1 h2 : ℕ) → Apart P → Inside h1 P → Inside h2 P → Disjoint h1 h2 → 2 ≤ size h1 → size h2 ≡ size h1
+pub step-remove : (parts : ℕ → List ℕ) (P : List ℕ) (h1 h2 : ℕ) → Apart P → InOnePiece h1 P → InOnePiece h2 P → Disjoint h1 h2 → 2 ≤ size h1 → size h2 ≡ size h1
     → ((p : ℕ) → List·Memᴰ p P → Split (diff (diff p h1) h2) (parts p)) → Step P (record { first = h1; second = h2 }) (h1 ∷ big (flatten (map parts P)))
 step-remove parts P h1 h2 a i j d two same h =
     step-of P h1 h2 (map parts P) (h1 ∷ big (flatten (map parts P))) a i j d two same (splits-map (λ (p : ℕ). diff (diff p h1) h2) parts P h) (Permᴰ·refl (h1 ∷ big (flatten (map parts P))))
@@ -135,19 +135,19 @@ splits-size (p ∷ P) (l ∷ ls) w = omega (arith, sum-append size l (flatten ls
 
 module _ {P Q : List ℕ} {m : Removal} (st : Step P m Q) where
   -- the first fragment lies in a piece
-  pub step-first : Inside (m .first) P
+  pub step-first : InOnePiece (m .first) P
   step-first = let w = splits-mem P (st .parts) (m .first) (st .splits) (mem-perm (Permᴰ·symm (st .found)) (List·Memᴰ·head refl)) in (w .0, w .1, w .2)
 
   -- and the second
-  pub step-second : Inside (m .second) P
+  pub step-second : InOnePiece (m .second) P
   step-second = let w = splits-mem P (st .parts) (m .second) (st .splits) (mem-perm (Permᴰ·symm (st .found)) (List·Memᴰ·tail (List·Memᴰ·head refl))) in (w .0, w .1, w .2)
 
   -- and each part that is left
-  rest-inside : (a : ℕ) → List·Memᴰ a (st .rest) → Inside a P
+  rest-inside : (a : ℕ) → List·Memᴰ a (st .rest) → InOnePiece a P
   rest-inside a i = let w = splits-mem P (st .parts) a (st .splits) (mem-perm (Permᴰ·symm (st .found)) (List·Memᴰ·tail (List·Memᴰ·tail i))) in (w .0, w .1, w .2)
 
   -- and so every piece that is left
-  pub step-inside : (q : ℕ) → List·Memᴰ q Q → Inside q P
+  pub step-inside : (q : ℕ) → List·Memᴰ q Q → InOnePiece q P
   step-inside q i =
       ⊎-elim (λ e. let w = step-first in (w .0, w .1, rw e (w .2))) (λ t. rest-inside q (mem-big (st .rest) q t)) (List·Memᴰ·cases-cons (mem-perm (st .left) i))
 

@@ -1,4 +1,5 @@
--- Document 01, 'Search': J of Int, and the Rust's `usable_edges_bound` and `match_bounds` (src/bounds.rs). What a fragment of t bonds costs at least is a parameter: ceiling log2 t in document 01.
+-- Document 01, 'Search': J of Int, and the Rust's `usable_edges_bound` and `match_bounds` (src/bounds.rs).
+-- What a fragment of t bonds costs at least is a parameter: ceiling log2 t in document 01.
 use mathlib.Core.Bool.{Bool, not}
 use mathlib.Core.List.{List}
 use Prim.Native.Nat.{ℕ, _+_, _-_, _/_, _%_}

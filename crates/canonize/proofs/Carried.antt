@@ -10,24 +10,9 @@ use Rattle.molecule.specs.Lists.{Bytes}
 use Rattle.molecule.specs.Record.{bonds, endA, endB}
 use Rattle.molecule.specs.Connected.{Touch, Own, Linked, here, step, Connected}
 use Rattle.molecule.specs.Tree.{Joins}
-use Rattle.molecule.proofs.Touching.{Share, touch-in, touch-has}
+use Rattle.molecule.proofs.Touching.{EndOf, ends-share, share-ends, touch-in, touch-has}
 use Rattle.molecule.proofs.Components.{link-in, pair-cases}
 use Rattle.canonize.specs.Isomorphism.{AtomOf, Isomorphism}
-
--- atom v is an end of bond i
-abbrev pub EndOf : Bytes → ℕ → ℕ → Type 0
-EndOf r i v = (endA r i ≡ v) ⊎ (endB r i ≡ v)
-
--- two bonds share an atom where one is an end of both
-share-by : (r : Bytes) (i j v : ℕ) → EndOf r i v → EndOf r j v → Share r i j
-share-by r i j v (inl e) (inl f) = inl (inl (f ∙ sym e))
-share-by r i j v (inl e) (inr f) = inl (inr (f ∙ sym e))
-share-by r i j v (inr e) (inl f) = inr (inl (f ∙ sym e))
-share-by r i j v (inr e) (inr f) = inr (inr (f ∙ sym e))
-
-shared : (r : Bytes) (i j : ℕ) → Share r i j → (v : ℕ) × EndOf r i v × EndOf r j v
-shared r i j (inl e) = (endA r i, inl refl, e)
-shared r i j (inr e) = (endB r i, inr refl, e)
 
 -- by a map of bonds, y is the image of x
 pub record Carried (f : ℕ → ℕ) (x y : ℕ) : Type 0 where
@@ -69,9 +54,9 @@ module _ (r q : Bytes) (h k : ℕ) (o : Own q k) (w : Isomorphism r h q k) where
   pub touch-goes : (b c : ℕ) → bit h b ≡ 1 → bit h c ≡ 1 → Touch r b c → Touch q (w .bond b) (w .bond c)
   touch-goes b c m n t =
       let z = touch-in r b c t in
-      let (v, eb, ec) = shared r b c (z .2) in
+      let (v, eb, ec) = share-ends r b c (z .2) in
       touch-has q (w .bond b) (w .bond c) (λ e. z .0 (w .bond-one c b n m e)) (member-lt (bonds q) k (w .bond c) o (w .bond-into c n))
-      (share-by q (w .bond b) (w .bond c) (w .atom v) (end-goes b v m eb) (end-goes c v n ec))
+      (ends-share q (w .bond b) (w .bond c) (w .atom v) (end-goes b v m eb) (end-goes c v n ec))
 
   -- the image of two bonds is the two images
   pub pair-carried : (b c : ℕ) → Carried (w .bond) (bitOr (2 ^ b) (2 ^ c)) (bitOr (2 ^ w .bond b) (2 ^ w .bond c))

@@ -15,7 +15,7 @@ use mathlib.Core.List.{append-nil}
 use Rattle.canonize.proofs.Peeling.{Joined}
 use Rattle.canonize.proofs.Rounds.{Treelike, arcs-some, arcs-turn}
 use Rattle.canonize.proofs.Hanging.{Clean}
-use Rattle.canonize.proofs.Parts.{Connected}
+use Rattle.canonize.proofs.Parts.{ConnectedBonds}
 use Rattle.canonize.proofs.Facts.{Piece, pieces-iff}
 
 -- the bonds that a test on their numbers picks, and the others
@@ -47,7 +47,7 @@ touched-in bs ns {n} m =
         let (i, f) = keep-mem (λ (x : Bond). eqb (x .v) n) (arcs bs) w in
         (x, i, eqb-true (x .v) n f)
 
-pub piece-of : (a : Frag) → Clean a → (s rest : List Bond) → Perm (a .bonds) (s ++ rest) → Connected s → Piece a (touchedBy s (a .atoms)) s
+pub piece-of : (a : Frag) → Clean a → (s rest : List Bond) → Perm (a .bonds) (s ++ rest) → ConnectedBonds s → Piece a (touchedBy s (a .atoms)) s
 piece-of a c s rest p k = record {
   rest = rest;
   chosen = p;
@@ -66,7 +66,7 @@ more-bonds (a ∷ b ∷ c ∷ r) bs t = sym (lt-ltb 1 (length bs) (omega (arith,
 
 -- the theorem for bond sets given by tests on bond numbers, of one molecule
 pub sets-iff : (atoms : List ℕ) (elem : ℕ → ℕ) (bond : ℕ → Bond) (numbers : List ℕ) → Clean (record { atoms = atoms; bonds = map bond numbers; elem = elem })
-    → (p q : ℕ → Bool) → Connected (map bond (filter p numbers)) → Connected (map bond (filter q numbers))
+    → (p q : ℕ → Bool) → ConnectedBonds (map bond (filter p numbers)) → ConnectedBonds (map bond (filter q numbers))
     → (labelOf (record { atoms = touchedBy (map bond (filter p numbers)) atoms; bonds = map bond (filter p numbers); elem = elem }) ≡ labelOf (record { atoms = touchedBy (map bond (filter q numbers)) atoms; bonds = map bond (filter q numbers); elem = elem }))
     ↔ Joined (record { atoms = touchedBy (map bond (filter p numbers)) atoms; bonds = map bond (filter p numbers); elem = elem }) (record { atoms = touchedBy (map bond (filter q numbers)) atoms; bonds = map bond (filter q numbers); elem = elem })
 sets-iff atoms elem bond numbers c p q f g =

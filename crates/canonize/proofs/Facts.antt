@@ -8,16 +8,16 @@ use native.Mathlib.Omega.{arith}
 use lib.ListN.{length, length-map}
 use Rattle.molecule.proofs.Perms.{perm-eq, perm-length, perm-mem, Distinct, distinct-perm, map-distinct}
 use Rattle.canonize.specs.Fragment.{Bond, Frag, arcs, labelOf}
-use Rattle.canonize.proofs.RoseTrees.{Tree, bondsIn, bonds, code-length, twoCode-length}
+use Rattle.canonize.proofs.RoseTrees.{RoseTree, bondsIn, bonds, code-length, twoCode-length}
 use Rattle.canonize.proofs.Pairing.{allItems, items-length}
-use Rattle.canonize.proofs.Peeling.{arcs-length, onBond, treeLabel, Joined, Formed, label-of-joined}
+use Rattle.canonize.proofs.Peeling.{arcs-length, onBond, treeLabel, Joined, FormedFrag, label-of-joined}
 use Rattle.canonize.proofs.Rounds.{toBond, arcs-some}
 use Rattle.canonize.proofs.Hanging.{arcs-map, Clean, Holds, Result, one-centre, two-centres, attach, result, label-iff, joined-of-label}
-use Rattle.canonize.proofs.Parts.{Connected, connected-tree}
+use Rattle.canonize.proofs.Parts.{ConnectedBonds, connected-tree}
 use Rattle.canonize.proofs.OnStrings.{label-document}
 
 -- lengths
-holds-bonds : (t : Tree) (a : Frag) → Holds t a → bonds t ≡ length (a .bonds)
+holds-bonds : (t : RoseTree) (a : Frag) → Holds t a → bonds t ≡ length (a .bonds)
 holds-bonds t a h = omega (arith, items-length (t .atom) (t .kids), perm-length (h .bonds), arcs-length (map toBond (allItems t)), arcs-length (a .bonds), length-map (allItems t) toBond)
 
 pub label-length : (a : Frag) → Clean a → (length (treeLabel a) ≡ 6 * length (a .bonds) + 3) ⊎ (length (treeLabel a) ≡ 6 * length (a .bonds) + 5)
@@ -38,7 +38,7 @@ map-id : {A : Type 0} (l : List A) → map (λ x. x) l ≡ l
 map-id [] = refl
 map-id (x ∷ l) = ap (λ z. x ∷ z) (map-id l)
 
-pub label-order : (ns ms : List ℕ) (bs cs : List Bond) (elem : ℕ → ℕ) → Formed (record { atoms = ns; bonds = bs; elem = elem }) → Formed (record { atoms = ms; bonds = cs; elem = elem }) → Perm ns ms → Perm (arcs bs) (arcs cs)
+pub label-order : (ns ms : List ℕ) (bs cs : List Bond) (elem : ℕ → ℕ) → FormedFrag (record { atoms = ns; bonds = bs; elem = elem }) → FormedFrag (record { atoms = ms; bonds = cs; elem = elem }) → Perm ns ms → Perm (arcs bs) (arcs cs)
     → treeLabel (record { atoms = ns; bonds = bs; elem = elem }) ≡ treeLabel (record { atoms = ms; bonds = cs; elem = elem })
 label-order ns ms bs cs elem f g p q =
     label-of-joined (record { atoms = ns; bonds = bs; elem = elem }) (record { atoms = ms; bonds = cs; elem = elem }) f g
@@ -62,7 +62,7 @@ distinct-image f (m ∷ ms) i d =
 abbrev pub part : Frag → List ℕ → List Bond → Frag
 part a ms s = record { atoms = ms; bonds = s; elem = a .elem }
 
-pub part-label : (a b : Frag) → Distinct (b .atoms) → (j : Joined a b) (ms : List ℕ) (s : List Bond) → ((n : ℕ) → Mem n ms → Mem n (a .atoms)) → Formed (part a ms s) → treeLabel (part a ms s) ≡ treeLabel (part b (map (j .f) ms) (map (onBond (j .f)) s))
+pub part-label : (a b : Frag) → Distinct (b .atoms) → (j : Joined a b) (ms : List ℕ) (s : List Bond) → ((n : ℕ) → Mem n ms → Mem n (a .atoms)) → FormedFrag (part a ms s) → treeLabel (part a ms s) ≡ treeLabel (part b (map (j .f) ms) (map (onBond (j .f)) s))
 part-label a b d j ms s inn f =
     label-of-joined (part a ms s) (part b (map (j .f) ms) (map (onBond (j .f)) s)) f
     (record { distinct = distinct-image (j .f) ms (λ m n p q. joined-injective a b j d (inn m p) (inn n q)) (f .distinct); ends = ends })
@@ -78,7 +78,7 @@ part-label a b d j ms s inn f =
 abbrev pub pairOf : Frag → Bond → Bond → Frag
 pairOf a x y = part a (x .u ∷ x .v ∷ y .v ∷ []) (x ∷ y ∷ [])
 
-pub pair-label : (a b : Frag) → Distinct (b .atoms) → Formed a → (j : Joined a b) (x y : Bond) → Mem x (arcs (a .bonds)) → Mem y (arcs (a .bonds)) → x .v ≡ y .u → Distinct (x .u ∷ x .v ∷ y .v ∷ [])
+pub pair-label : (a b : Frag) → Distinct (b .atoms) → FormedFrag a → (j : Joined a b) (x y : Bond) → Mem x (arcs (a .bonds)) → Mem y (arcs (a .bonds)) → x .v ≡ y .u → Distinct (x .u ∷ x .v ∷ y .v ∷ [])
     → treeLabel (pairOf a x y) ≡ treeLabel (pairOf b (onBond (j .f) x) (onBond (j .f) y))
 pair-label a b d f j x y p q e g = part-label a b d j (x .u ∷ x .v ∷ y .v ∷ []) (x ∷ y ∷ []) inn (record { distinct = g; ends = ends })
   where
@@ -97,7 +97,7 @@ pair-label a b d f j x y p q e g = part-label a b d j (x .u ∷ x .v ∷ y .v �
 pub record Piece (a : Frag) (ms : List ℕ) (s : List Bond) : Type 0 where
   pub rest : List Bond
   pub chosen : Perm (a .bonds) (s ++ rest)
-  pub connected : Connected s
+  pub connected : ConnectedBonds s
   pub distinct : Distinct ms
   pub ends : (x : Bond) → Mem x (arcs s) → Mem (x .u) ms × Mem (x .v) ms
   pub touched : (n : ℕ) → Mem n ms → (x : Bond) × Mem x (arcs s) × (x .v ≡ n)

@@ -23,7 +23,7 @@ use Rattle.canonize.specs.Label.{bondOf, bondsOf, fragment}
 use Rattle.canonize.specs.Isomorphism.{AtomOf}
 use Rattle.canonize.proofs.Rounds.{arcs-mem, arcs-turn}
 use Rattle.canonize.proofs.Hanging.{Clean}
-use Rattle.canonize.proofs.Parts.{Connected as Joint, arc-bond}
+use Rattle.canonize.proofs.Parts.{ConnectedBonds as Joint, arc-bond}
 use Rattle.canonize.proofs.Choose.{touched-has, touched-in}
 use Rattle.canonize.proofs.OfRecords.{Reach, at-root, along, Accepted, Steps, arrived, touching, connected-numbers}
 use Rattle.canonize.proofs.Plain.{arc, fragment-clean as part-clean}

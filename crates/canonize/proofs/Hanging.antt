@@ -12,22 +12,22 @@ use lib.Dec.{eqb}
 use Rattle.molecule.proofs.Perms.{not-both, perm-append, perm-exchange, perm-eq, perm-mem, Distinct, distinct-perm, perm-map, map-append, keep-mem, keep-split, eqb-yes, eqb-no}
 use Rattle.canonize.specs.Fragment.{Bond, Frag, arcs, endAtom, more, toEnds, turn}
 use Rattle.molecule.specs.Lists.{filter}
-use Rattle.canonize.proofs.RoseTrees.{Kids, nil, kid, Tree, bonds, code, twoCode, Code, GoodKids, Good, pair, here, _≈_, shape-of-code, shape-of-two, one-not-two}
+use Rattle.canonize.proofs.RoseTrees.{Kids, nil, kid, RoseTree, bonds, code, twoCode, Code, GoodKids, Good, pair, here, _≈_, shape-of-code, shape-of-two, one-not-two}
 use Rattle.canonize.proofs.Pairing.{Item, items, onItem, atoms, allItems, allAtoms, items-atoms, Iso, iso-of-shape, iso-atoms}
 use Rattle.canonize.proofs.Sums.{flat, flat-perm}
-use Rattle.canonize.proofs.Peeling.{onBond, both, TreePeel, gather, treeRound, treePeel, settle-more, settle-stop, treeAt, treeTwo, treeLast, treeStart, treeLabel, Joined, Formed, label-of-joined}
+use Rattle.canonize.proofs.Peeling.{onBond, both, TreePeel, gather, treeRound, treePeel, settle-more, settle-stop, treeAt, treeTwo, treeLast, treeStart, treeLabel, Joined, FormedFrag, label-of-joined}
 use Rattle.canonize.proofs.Rounds.{Treelike, stay, going, below, toItem, toBond, arcs-perm, arcs-append, arcs-cut, arcs-mem, ends-apart, ends-going, round-shorter, round-tree, round-items}
 
 -- the element codes are those of the atoms, and no code is 0 or 255
-abbrev pub Fits : (ℕ → ℕ) → Kids → Type 0
-Fits elem nil = Unit {0}
-Fits elem (kid b a e u r) = (e ≡ elem a) × Code b × Code e × Fits elem u × Fits elem r
+abbrev pub CodesOf : (ℕ → ℕ) → Kids → Type 0
+CodesOf elem nil = Unit {0}
+CodesOf elem (kid b a e u r) = (e ≡ elem a) × Code b × Code e × CodesOf elem u × CodesOf elem r
 
-pub fits-good : (elem : ℕ → ℕ) (k : Kids) → Fits elem k → GoodKids k
+pub fits-good : (elem : ℕ → ℕ) (k : Kids) → CodesOf elem k → GoodKids k
 fits-good elem nil f = tt
 fits-good elem (kid b a e u r) f = (f .1, f .2, fits-good elem u (f .3), fits-good elem r (f .4))
 
-fits-item : (elem : ℕ → ℕ) (p : ℕ) (k : Kids) {i : Item} → Fits elem k → Mem i (items p k) → i .elem ≡ elem (i .atom)
+fits-item : (elem : ℕ → ℕ) (p : ℕ) (k : Kids) {i : Item} → CodesOf elem k → Mem i (items p k) → i .elem ≡ elem (i .atom)
 fits-item elem p (kid b a e u r) f (m-head h) = ap (λ (j : Item). j .elem) h ∙ f .0 ∙ ap elem (sym (ap (λ (j : Item). j .atom) h))
 fits-item elem p (kid b a e u r) {i} f (m-tail m) = go (mem-cases (items a u) m) (λ n. fits-item elem a u (f .3) n) (λ n. fits-item elem p r (f .4) n)
   where
@@ -35,7 +35,7 @@ fits-item elem p (kid b a e u r) {i} f (m-tail m) = go (mem-cases (items a u) m)
     go (inl n) g h = g n
     go (inr n) g h = h n
 
-gather-fits : (elem : ℕ → ℕ) (T : ℕ → Kids) (xs : List Bond) (k : Kids) → ((n : ℕ) → Fits elem (T n)) → ((x : Bond) → Mem x xs → Code (x .code) × Code (elem (x .v))) → Fits elem k → Fits elem (gather elem T xs k)
+gather-fits : (elem : ℕ → ℕ) (T : ℕ → Kids) (xs : List Bond) (k : Kids) → ((n : ℕ) → CodesOf elem (T n)) → ((x : Bond) → Mem x xs → Code (x .code) × Code (elem (x .v))) → CodesOf elem k → CodesOf elem (gather elem T xs k)
 gather-fits elem T [] k f g h = h
 gather-fits elem T (x ∷ xs) k f g h = let c = g x (m-head refl) in (refl, c .0, c .1, f (x .v), gather-fits elem T xs k f (λ y m. g y (m-tail m)) h)
 
@@ -45,14 +45,14 @@ pub record Clean (a : Frag) : Type 0 where
   pub elems : (n : ℕ) → Mem n (a .atoms) → Code (a .elem n)
   pub codes : (x : Bond) → Mem x (arcs (a .bonds)) → Code (x .code)
 
-pub clean-formed : (a : Frag) → Clean a → Formed a
+pub clean-formed : (a : Frag) → Clean a → FormedFrag a
 clean-formed a c = record { distinct = c .tree .distinct; ends = c .tree .ends }
 
 -- a rose tree holds a fragment: the same atoms, and each bond exactly once, between a parent and a child
-pub record Holds (t : Tree) (a : Frag) : Type 0 where
+pub record Holds (t : RoseTree) (a : Frag) : Type 0 where
   pub good : Good t
   pub root : t .elem ≡ a .elem (t .atom)
-  pub fits : Fits (a .elem) (t .kids)
+  pub fits : CodesOf (a .elem) (t .kids)
   pub atoms : Perm (allAtoms t) (a .atoms)
   pub bonds : Perm (arcs (map toBond (allItems t))) (arcs (a .bonds))
 
@@ -61,7 +61,7 @@ pub record Hanging (a : Frag) (d : TreePeel) : Type 0 where
   pub tree : Treelike (d .present) (d .left)
   pub atoms : Perm (d .present ++ map (λ (i : Item). i .atom) (flat (below (d .under)) (d .present))) (a .atoms)
   pub bonds : Perm (arcs (d .left ++ map toBond (flat (below (d .under)) (d .present)))) (arcs (a .bonds))
-  pub fits : (n : ℕ) → Fits (a .elem) (d .under n)
+  pub fits : (n : ℕ) → CodesOf (a .elem) (d .under n)
 
 back : (elem : ℕ → ℕ) (xs : List Bond) → map toBond (map (toItem elem) xs) ≡ xs
 back elem [] = refl
@@ -125,15 +125,15 @@ settle-hanging a c (suc k) d h l = go (two (more (d .present))) (λ e. settle-ha
     go (inr e) r = rw (settle-stop (a .elem) k d e) (h, e)
 
 -- two trees joined by a bond, as one tree
-abbrev pub attach : ℕ → Tree → Tree → Tree
+abbrev pub attach : ℕ → RoseTree → RoseTree → RoseTree
 attach c x y = record { atom = x .atom; elem = x .elem; kids = kid c (y .atom) (y .elem) (y .kids) (x .kids) }
 
 pub data Result (a : Frag) (l : List ℕ) : Type 0 where
-  one-centre : (t : Tree) → Holds t a → l ≡ code t → Result a l
-  two-centres : (c : ℕ) (x y : Tree) → Good x → Good y → Holds (attach c x y) a → Holds (attach c y x) a → l ≡ twoCode c x y → Result a l
+  one-centre : (t : RoseTree) → Holds t a → l ≡ code t → Result a l
+  two-centres : (c : ℕ) (x y : RoseTree) → Good x → Good y → Holds (attach c x y) a → Holds (attach c y x) a → l ≡ twoCode c x y → Result a l
 
-module _ (a : Frag) (c : Clean a) (T : ℕ → Kids) (fits : (n : ℕ) → Fits (a .elem) (T n)) where
-  abbrev leaf : ℕ → Tree
+module _ (a : Frag) (c : Clean a) (T : ℕ → Kids) (fits : (n : ℕ) → CodesOf (a .elem) (T n)) where
+  abbrev leaf : ℕ → RoseTree
   leaf n = record { atom = n; elem = a .elem n; kids = T n }
 
   leaf-good : (n : ℕ) → Mem n (a .atoms) → Good (leaf n)
@@ -235,7 +235,7 @@ bond-item f [] = refl
 bond-item f (i ∷ l) = ap (λ (z : List Bond). onBond f (toBond i) ∷ z) (bond-item f l)
 
 -- Trees of one shape join what they hold
-pub joined-of-shape : (x y : Tree) (a b : Frag) → Distinct (a .atoms) → Holds x a → Holds y b → x ≈ y → Joined a b
+pub joined-of-shape : (x y : RoseTree) (a b : Frag) → Distinct (a .atoms) → Holds x a → Holds y b → x ≈ y → Joined a b
 joined-of-shape x y a b d h k s =
     let i : Iso x y = iso-of-shape x y (distinct-perm (perm-sym (h .atoms)) d) s in
     let eq : map (onBond (i .f)) (arcs (map toBond (allItems x))) ≡ arcs (map toBond (map (onItem (i .f)) (allItems x))) = arcs-map (i .f) (map toBond (allItems x)) ∙ ap arcs (bond-item (i .f) (allItems x)) in

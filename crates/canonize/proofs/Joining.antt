@@ -11,7 +11,7 @@ use Rattle.bitset.proofs.Members.{members-bit, sub-in, diff-sub}
 use Rattle.molecule.specs.Lists.{Bytes}
 use Rattle.molecule.proofs.Perms.{map-agree}
 use Rattle.canonize.specs.Strings.{sort, wrap, join, collapse}
-use Rattle.canonize.specs.Inner.Places.{Wrote, Least, After, Room}
+use Rattle.canonize.specs.Inner.Places.{Wrote, Least, After, FreeSlot}
 use Rattle.canonize.specs.Inner.Slate.{slot, Slate}
 use Rattle.canonize.proofs.Splitting.{sort-out, sort-split}
 use Rattle.canonize.proofs.Writing.{wrote-nil, wrote-then}
@@ -59,7 +59,7 @@ pub record Partly (set : ℕ) (start : Bytes) (place : ℕ) (now : Bytes) (next 
 pub partly-none : {set : ℕ} {start : Bytes} {place : ℕ} → Partly set start place start place set
 partly-none {set} {start} {place} = record { within = and-self set; done = []; wrote = wrote-nil start place; all = refl }
 
-module _ {set : ℕ} {start : Bytes} {place : ℕ} (s : Slate start) (room : Room set place (length (bundle (slot start) set)))
+module _ {set : ℕ} {start : Bytes} {place : ℕ} (s : Slate start) (room : FreeSlot set place (length (bundle (slot start) set)))
     {now : Bytes} {next rest : ℕ} (p : Partly set start place now next rest) where
   -- what is written and what is left are all
   sizes : length (p .done) + length (bundle (slot start) rest) ≡ length (bundle (slot start) set)
@@ -91,7 +91,7 @@ module _ {set : ℕ} {start : Bytes} {place : ℕ} (s : Slate start) (room : Roo
     out-sizes : length (bundle (slot start) rest) ≡ length (wrap (slot now i)) + length (bundle (slot start) (diff rest (2 ^ i)))
     out-sizes = ap length (bundle-out (slot start) rest i first) ∙ rw this (length-append (wrap (slot start i)) (bundle (slot start) (diff rest (2 ^ i))))
 
-    pub partly-room : Room rest next (length (wrap (slot now i)))
+    pub partly-room : FreeSlot rest next (length (wrap (slot now i)))
     partly-room =
         room-part room rest next (length (wrap (slot now i))) (p .within) (omega (arith, p .wrote .place)) (omega (arith, p .wrote .place, sizes, out-sizes))
 
@@ -123,13 +123,13 @@ three-sizes {X} {s} {e} {t} a =
 pub record Gathering (set e t : ℕ) (start : Bytes) (place : ℕ) : Type 0 where
   pub serves : Slate start
   pub after : After (slot start) set e t
-  pub room : Room set place (length (gathered (slot start) e set))
+  pub room : FreeSlot set place (length (gathered (slot start) e set))
 
 module _ {set e t : ℕ} {start : Bytes} {place : ℕ} (g : Gathering set e t start place) where
   pieces : length (gathered (slot start) e set) ≡ length (bundle (slot start) (diff set t)) + (3 + length (bundle (slot start) t))
   pieces = three-sizes (g .after)
 
-  pub room-before : Room (diff set t) place (length (bundle (slot start) (diff set t)))
+  pub room-before : FreeSlot (diff set t) place (length (bundle (slot start) (diff set t)))
   room-before = room-part (g .room) (diff set t) place (length (bundle (slot start) (diff set t))) (diff-sub set t) (omega arith) (omega (arith, pieces))
 
   module _ {middle : ℕ} {one : Bytes} (w : Wrote start place (bundle (slot start) (diff set t)) middle one) where
@@ -154,7 +154,7 @@ module _ {set e t : ℕ} {start : Bytes} {place : ℕ} (g : Gathering set e t st
       pub serves-after : Slate two
       serves-after = room-serves (g .room) (g .serves) both both-short
 
-      pub room-after : Room t last (length (bundle (slot two) t))
+      pub room-after : FreeSlot t last (length (bundle (slot two) t))
       room-after =
           rw later
           (room-part (g .room) t last (length (bundle (slot start) t)) (g .after .within) (omega (arith, both .place))

@@ -15,7 +15,7 @@ use Rattle.canonize.proofs.RoseTrees.{Code}
 use Rattle.canonize.proofs.Peeling.{treeLabel}
 use Rattle.canonize.proofs.Rounds.{arcs-turn}
 use Rattle.canonize.proofs.Hanging.{Clean}
-use Rattle.canonize.proofs.Parts.{Connected, Walk, stop, step, Meets, Linked, arc-bond}
+use Rattle.canonize.proofs.Parts.{ConnectedBonds, BondWalk, stop, step, Meets, Crossed, arc-bond}
 use Rattle.canonize.proofs.Facts.{label-length}
 use Rattle.canonize.proofs.OnStrings.{label-document}
 
@@ -24,30 +24,30 @@ pub data Reach (bs : List Bond) (r : ℕ) : ℕ → Type 0 where
   at-root : {n : ℕ} → n ≡ r → Reach bs r n
   along : {n : ℕ} (x : Bond) → Mem x (arcs bs) → x .v ≡ n → Reach bs r (x .u) → Reach bs r n
 
-abbrev Leaves : (ℕ → Bool) → List Bond → Type 0
-Leaves S bs = (x : Bond) × Mem x (arcs bs) × (S (x .u) ≡ true) × (S (x .v) ≡ false)
+abbrev CrossedBy : (ℕ → Bool) → List Bond → Type 0
+CrossedBy S bs = (x : Bond) × Mem x (arcs bs) × (S (x .u) ≡ true) × (S (x .v) ≡ false)
 
 -- from a root inside S to an atom outside, or the other way round
-reach-out : (S : ℕ → Bool) (bs : List Bond) (r : ℕ) {n : ℕ} → Reach bs r n → S r ≡ true → S n ≡ false → Leaves S bs
+reach-out : (S : ℕ → Bool) (bs : List Bond) (r : ℕ) {n : ℕ} → Reach bs r n → S r ≡ true → S n ≡ false → CrossedBy S bs
 reach-out S bs r (at-root e) h k = absurd (not-both h (ap S (sym e) ∙ k))
 reach-out S bs r (along x m e w) h k = go (two (S (x .u))) (λ z. reach-out S bs r w h z)
   where
-    go : (S (x .u) ≡ true) ⊎ (S (x .u) ≡ false) → (S (x .u) ≡ false → Leaves S bs) → Leaves S bs
+    go : (S (x .u) ≡ true) ⊎ (S (x .u) ≡ false) → (S (x .u) ≡ false → CrossedBy S bs) → CrossedBy S bs
     go (inl z) f = (x, m, z, ap S e ∙ k)
     go (inr z) f = f z
 
-reach-in : (S : ℕ → Bool) (bs : List Bond) (r : ℕ) {n : ℕ} → Reach bs r n → S r ≡ false → S n ≡ true → Leaves S bs
+reach-in : (S : ℕ → Bool) (bs : List Bond) (r : ℕ) {n : ℕ} → Reach bs r n → S r ≡ false → S n ≡ true → CrossedBy S bs
 reach-in S bs r (at-root e) h k = absurd (not-both (ap S (sym e) ∙ k) h)
 reach-in S bs r (along x m e w) h k = go (two (S (x .u))) (λ z. reach-in S bs r w h z)
   where
-    go : (S (x .u) ≡ true) ⊎ (S (x .u) ≡ false) → (S (x .u) ≡ true → Leaves S bs) → Leaves S bs
+    go : (S (x .u) ≡ true) ⊎ (S (x .u) ≡ false) → (S (x .u) ≡ true → CrossedBy S bs) → CrossedBy S bs
     go (inl z) f = f z
     go (inr z) f = (turn x, arcs-turn bs m, ap S e ∙ k, z)
 
-pub reach-linked : (ns : List ℕ) (bs : List Bond) (r : ℕ) → ((n : ℕ) → Mem n ns → Reach bs r n) → Linked ns bs
+pub reach-linked : (ns : List ℕ) (bs : List Bond) (r : ℕ) → ((n : ℕ) → Mem n ns → Reach bs r n) → Crossed ns bs
 reach-linked ns bs r w S p q i j h k = go (two (S r))
   where
-    go : (S r ≡ true) ⊎ (S r ≡ false) → Leaves S bs
+    go : (S r ≡ true) ⊎ (S r ≡ false) → CrossedBy S bs
     go (inl z) = reach-out S bs r (w q j) z k
     go (inr z) = reach-in S bs r (w p i) z h
 
@@ -106,17 +106,17 @@ pub data Steps (bond : ℕ → Bond) (s : List ℕ) : ℕ → ℕ → Type 0 whe
   arrived : {i j : ℕ} → i ≡ j → Steps bond s i j
   touching : {i j k : ℕ} (n : ℕ) → Meets n (bond i) → Meets n (bond j) → Mem j s → Steps bond s j k → Steps bond s i k
 
-pub connected-numbers : (bond : ℕ → Bond) (s : List ℕ) (i : ℕ) → Mem i s → ((j k : ℕ) → Mem j s → Mem k s → Steps bond s j k) → Connected (map bond s)
+pub connected-numbers : (bond : ℕ → Bond) (s : List ℕ) (i : ℕ) → Mem i s → ((j k : ℕ) → Mem j s → Mem k s → Steps bond s j k) → ConnectedBonds (map bond s)
 connected-numbers bond s i m w = record {
   some = bond i;
   in-it = mem-map bond m;
   walk = λ b c p q.
       let (j, k, e) = mem-of-map bond s p in
       let (l, o, f) = mem-of-map bond s q in
-      subst (λ z. Walk (map bond s) z c) e (subst (λ z. Walk (map bond s) (bond j) z) f (walked (w j l k o)));
+      subst (λ z. BondWalk (map bond s) z c) e (subst (λ z. BondWalk (map bond s) (bond j) z) f (walked (w j l k o)));
 }
   where
-    walked : {j k : ℕ} → Steps bond s j k → Walk (map bond s) (bond j) (bond k)
+    walked : {j k : ℕ} → Steps bond s j k → BondWalk (map bond s) (bond j) (bond k)
     walked (arrived e) = stop (ap bond e)
     walked (touching n p q k t) = step n p q (mem-map bond k) (walked t)
 

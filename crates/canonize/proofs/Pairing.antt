@@ -6,7 +6,7 @@ use native.Mathlib.Omega.{arith}
 use native.Mathlib.Decide.{ℕ-discrete}
 use lib.ListN.{length, length-append}
 use Rattle.molecule.proofs.Perms.{perm-append, perm-exchange, perm-eq, Distinct, distinct-left, distinct-right, distinct-apart, distinct-perm, perm-map, map-append, memb}
-use Rattle.canonize.proofs.RoseTrees.{Kids, nil, kid, Tree, bondsIn, Kid, here, there, Like, no-kids, pair, _≈_}
+use Rattle.canonize.proofs.RoseTrees.{Kids, nil, kid, RoseTree, bondsIn, Kid, here, there, Like, no-kids, pair, _≈_}
 
 -- what a child says: its parent, the bond's code, its atom and its element code
 pub record Item : Type 0 where
@@ -30,10 +30,10 @@ abbrev pub atoms : Kids → List ℕ
 atoms nil = []
 atoms (kid b a e u r) = a ∷ (atoms u ++ atoms r)
 
-abbrev pub allItems : Tree → List Item
+abbrev pub allItems : RoseTree → List Item
 allItems t = items (t .atom) (t .kids)
 
-abbrev pub allAtoms : Tree → List ℕ
+abbrev pub allAtoms : RoseTree → List ℕ
 allAtoms t = t .atom ∷ atoms (t .kids)
 
 pub items-atoms : (p : ℕ) (k : Kids) → map (λ (i : Item). i .atom) (items p k) ≡ atoms k
@@ -127,7 +127,7 @@ twin-map (t-kid {a = a} {a₁ = a₁} {u = u} {r = r} p q s t) d =
     (either f g (atoms u) a a₁, twin-step u r f g p q d h i)
 
 -- A map of atoms that sends root to root, keeps elements, and sends the (parent, bond code, child, element) of the first tree one to one onto those of the second
-pub record Iso (x y : Tree) : Type 0 where
+pub record Iso (x y : RoseTree) : Type 0 where
   pub f : ℕ → ℕ
   pub root : f (x .atom) ≡ y .atom
   pub root-elem : x .elem ≡ y .elem
@@ -145,7 +145,7 @@ kids-atom : Kids → ℕ
 kids-atom nil = 0
 kids-atom (kid b a e u r) = a
 
-pub iso-of-shape : (x y : Tree) → Distinct (allAtoms x) → x ≈ y → Iso x y
+pub iso-of-shape : (x y : RoseTree) → Distinct (allAtoms x) → x ≈ y → Iso x y
 unfolding kids-under kids-atom
 iso-of-shape x y d h =
     let (m, s, t) = like-twin (h .1) in
@@ -158,7 +158,7 @@ iso-of-shape x y d h =
     record { f = f; root = root; root-elem = h .0; all = p-trans (perm-eq same) (shuffled-items (y .atom) t) }
 
 -- what follows: the atoms go one to one onto the atoms
-pub iso-atoms : (x y : Tree) (i : Iso x y) → Perm (map (i .f) (allAtoms x)) (allAtoms y)
+pub iso-atoms : (x y : RoseTree) (i : Iso x y) → Perm (map (i .f) (allAtoms x)) (allAtoms y)
 iso-atoms x y i =
     let a : map (λ (j : Item). j .atom) (map (onItem (i .f)) (allItems x)) ≡ map (i .f) (atoms (x .kids)) =
     map-after (i .f) (allItems x) ∙ ap (map (i .f)) (items-atoms (x .atom) (x .kids)) in
@@ -168,9 +168,9 @@ iso-atoms x y i =
     map-after f [] = refl
     map-after f (j ∷ l) = ap (λ r. f (j .atom) ∷ r) (map-after f l)
 
-pub data Sub : Kids → Kids → Type 0 where
-  sub-nil : {l : Kids} → Sub nil l
-  sub-kid : {b a e : ℕ} {u r u₁ r₁ l : Kids} → Kid l b a e u₁ r₁ → Sub u u₁ → Sub r r₁ → Sub (kid b a e u r) l
+pub data SubKids : Kids → Kids → Type 0 where
+  sub-nil : {l : Kids} → SubKids nil l
+  sub-kid : {b a e : ℕ} {u r u₁ r₁ l : Kids} → Kid l b a e u₁ r₁ → SubKids u u₁ → SubKids r r₁ → SubKids (kid b a e u r) l
 
 pub items-length : (p : ℕ) (k : Kids) → length (items p k) ≡ bondsIn k
 unfolding bondsIn

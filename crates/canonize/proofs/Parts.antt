@@ -1,9 +1,9 @@
 -- A connected set of bonds of a tree is a tree.
-use Rattle.bitset.proofs.Bools.{two}
-use borrow.Author.Tests.{eqb-true}
+use Rattle.bitset.proofs.Bools.{two, or-left, or-right, and-true}
+use borrow.Author.Tests.{eqb-true, not-true}
 use mathlib.Core.Path.{_≡_, refl, sym, ap, _∙_}
 use mathlib.Core.Logic.{_⊎_, inl, inr}
-use mathlib.Core.Bool.{Bool, true, false, not}
+use mathlib.Core.Bool.{Bool, true, false, not, _||_}
 use mathlib.Core.List.{List, [], _∷_, _++_, List·Memᴰ as Mem, List·Memᴰ·head as m-head, List·Memᴰ·tail as m-tail, Memᴰ·cast as mem-cast, List·Permᴰ as Perm}
 use Prim.Native.Nat.{ℕ, zero, suc, _+_, _≤_}
 use native.Mathlib.Omega.{arith}
@@ -11,34 +11,12 @@ use lib.ListN.{length, length-append}
 use lib.Dec.{eqb}
 use Rattle.molecule.proofs.Perms.{not-both, distinct-le, perm-length, Distinct, memb, keep-perm, keep-mem, keep-same, keep-split, keep-distinct, eqb-yes, eqb-no}
 use Rattle.canonize.specs.Fragment.{Bond, arcs, turn}
-use Rattle.molecule.specs.Lists.{filter, pick}
+use Rattle.molecule.specs.Lists.{filter}
 use Rattle.canonize.proofs.Peeling.{both}
 use Rattle.canonize.proofs.Rounds.{Treelike, arcs-turn, arcs-mem, arcs-some}
 
-abbrev either : Bool → Bool → Bool
-either a b = pick a true b
-
-either-left : (a b : Bool) → a ≡ true → either a b ≡ true
-either-left a b e = rw e
-
-either-right : (a b : Bool) → b ≡ true → either a b ≡ true
-either-right true b e = refl
-either-right false b e = e
-
-both-left : (a b : Bool) → both a b ≡ true → a ≡ true
-both-left true b e = refl
-both-left false b e = e
-
-both-right : (a b : Bool) → both a b ≡ true → b ≡ true
-both-right true b e = e
-both-right false b e = absurd (not-both e refl)
-
 both-true : (a b : Bool) → a ≡ true → b ≡ true → both a b ≡ true
 both-true a b e f = rw (e, f)
-
-not-true : (a : Bool) → not a ≡ true → a ≡ false
-not-true true e = sym e
-not-true false e = refl
 
 -- counting
 keep-le : {A : Type 0} (p : A → Bool) (l : List A) → length (filter p l) ≤ length l
@@ -69,26 +47,26 @@ keep-more p q (x ∷ l) h (m-tail m) f g = go (two (p x)) (two (q x)) (keep-more
     go (inr a) (inr b) r = rw (a, b) r
 
 -- one number more
-keep-add : (A : ℕ → Bool) (v : ℕ) (l : List ℕ) → Distinct l → length (filter (λ n. either (A n) (eqb n v)) l) ≤ length (filter A l) + 1
+keep-add : (A : ℕ → Bool) (v : ℕ) (l : List ℕ) → Distinct l → length (filter (λ n. A n || eqb n v) l) ≤ length (filter A l) + 1
 keep-add A v [] d = omega arith
 keep-add A v (x ∷ l) d = go (two (A x)) (two (eqb x v)) (keep-add A v l (d .1))
   where
-    go : (A x ≡ true) ⊎ (A x ≡ false) → (eqb x v ≡ true) ⊎ (eqb x v ≡ false) → length (filter (λ n. either (A n) (eqb n v)) l) ≤ length (filter A l) + 1 → length (filter (λ n. either (A n) (eqb n v)) (x ∷ l)) ≤ length (filter A (x ∷ l)) + 1
+    go : (A x ≡ true) ⊎ (A x ≡ false) → (eqb x v ≡ true) ⊎ (eqb x v ≡ false) → length (filter (λ n. A n || eqb n v) l) ≤ length (filter A l) + 1 → length (filter (λ n. A n || eqb n v) (x ∷ l)) ≤ length (filter A (x ∷ l)) + 1
     go (inl a) b r = simp a (omega arith)
     go (inr a) (inr b) r = simp (a, b) r
     go (inr a) (inl b) r =
-        let same : filter (λ n. either (A n) (eqb n v)) l ≡ filter A l = keep-same (λ n. either (A n) (eqb n v)) A l (λ y m. each y m (two (A y))) in
+        let same : filter (λ n. A n || eqb n v) l ≡ filter A l = keep-same (λ n. A n || eqb n v) A l (λ y m. each y m (two (A y))) in
         simp (a, b) (omega (arith, ap length same))
       where
-        each : (y : ℕ) → Mem y l → (A y ≡ true) ⊎ (A y ≡ false) → either (A y) (eqb y v) ≡ A y
+        each : (y : ℕ) → Mem y l → (A y ≡ true) ⊎ (A y ≡ false) → (A y || eqb y v) ≡ A y
         each y m (inl k) = rw k
         each y m (inr k) = rw (k, eqb-no {a = y} {b = v} (λ e. d .0 (mem-cast (eqb-true x v b ∙ sym e) m)))
 
 abbrev pub inside : (ℕ → Bool) → Bond → Bool
 inside A b = both (A (b .u)) (A (b .v))
 
-abbrev pub Linked : List ℕ → List Bond → Type 0
-Linked ns bs = (S : ℕ → Bool) (p q : ℕ) → Mem p ns → Mem q ns → S p ≡ true → S q ≡ false → (x : Bond) × Mem x (arcs bs) × (S (x .u) ≡ true) × (S (x .v) ≡ false)
+abbrev pub Crossed : List ℕ → List Bond → Type 0
+Crossed ns bs = (S : ℕ → Bool) (p q : ℕ) → Mem p ns → Mem q ns → S p ≡ true → S q ≡ false → (x : Bond) × Mem x (arcs bs) × (S (x .u) ≡ true) × (S (x .v) ≡ false)
 
 pub arc-bond : (bs : List Bond) {x : Bond} → Mem x (arcs bs) → Mem x bs ⊎ Mem (turn x) bs
 arc-bond (b ∷ bs) (m-head e) = inl (m-head e)
@@ -100,7 +78,7 @@ arc-bond (b ∷ bs) {x} (m-tail (m-tail m)) = go (arc-bond bs m)
     go (inr i) = inr (m-tail i)
 
 -- a set of atoms grows by a bond that leaves it: bonds inside less atoms never falls
-module _ (ns : List ℕ) (bs : List Bond) (d : Distinct ns) (ends : (x : Bond) → Mem x (arcs bs) → Mem (x .u) ns × Mem (x .v) ns) (linked : Linked ns bs) where
+module _ (ns : List ℕ) (bs : List Bond) (d : Distinct ns) (ends : (x : Bond) → Mem x (arcs bs) → Mem (x .u) ns × Mem (x .v) ns) (linked : Crossed ns bs) where
   grows : (k : ℕ) (A : ℕ → Bool) (p : ℕ) → Mem p ns → A p ≡ true → length (filter (λ n. not (A n)) ns) ≤ k → length (filter (inside A) bs) + length ns ≤ length bs + length (filter A ns)
   grows zero A p i h l = omega (arith, keep-le (inside A) bs, perm-length (keep-split A ns), length-append (filter (λ n. not (A n)) ns) (filter A ns))
   grows (suc k) A p i h l = go (filter (λ n. not (A n)) ns) refl (λ B. grows k B p i)
@@ -112,21 +90,21 @@ module _ (ns : List ℕ) (bs : List Bond) (d : Distinct ns) (ends : (x : Bond) �
           let w : Mem q (filter (λ n. not (A n)) ns) = rw e (m-head refl) in
           let (j, f) = keep-mem (λ n. not (A n)) ns w in
           let (x, m, g, o) = linked A p q i j h (not-true (A q) f) in
-          let B : ℕ → Bool = λ n. either (A n) (eqb n (x .v)) in
-          let at-v : B (x .v) ≡ true = either-right (A (x .v)) (eqb (x .v) (x .v)) (eqb-yes {a = x .v} refl) in
+          let B : ℕ → Bool = λ n. A n || eqb n (x .v) in
+          let at-v : B (x .v) ≡ true = or-right (A (x .v)) (eqb (x .v) (x .v)) (eqb-yes {a = x .v} refl) in
           let wider : (b : Bond) → inside A b ≡ true → inside B b ≡ true =
-          λ b z. both-true (B (b .u)) (B (b .v)) (either-left (A (b .u)) (eqb (b .u) (x .v)) (both-left (A (b .u)) (A (b .v)) z)) (either-left (A (b .v)) (eqb (b .v) (x .v)) (both-right (A (b .u)) (A (b .v)) z)) in
-          let bonds-up : length (filter (inside A) bs) + 1 ≤ length (filter (inside B) bs) = up x g o (arc-bond bs m) wider (either-left (A (x .u)) (eqb (x .u) (x .v)) g) at-v in
-          let atoms-up : length (filter A ns) + 1 ≤ length (filter B ns) = keep-more A B ns (λ n z. either-left (A n) (eqb n (x .v)) z) (ends x m .1) o at-v in
+          λ b z. both-true (B (b .u)) (B (b .v)) (or-left (A (b .u)) (eqb (b .u) (x .v)) (and-true (A (b .u)) (A (b .v)) z .0)) (or-left (A (b .v)) (eqb (b .v) (x .v)) (and-true (A (b .u)) (A (b .v)) z .1)) in
+          let bonds-up : length (filter (inside A) bs) + 1 ≤ length (filter (inside B) bs) = up x g o (arc-bond bs m) wider (or-left (A (x .u)) (eqb (x .u) (x .v)) g) at-v in
+          let atoms-up : length (filter A ns) + 1 ≤ length (filter B ns) = keep-more A B ns (λ n z. or-left (A n) (eqb n (x .v)) z) (ends x m .1) o at-v in
           let s₁ : length ns ≡ length (filter (λ n. not (A n)) ns) + length (filter A ns) = perm-length (keep-split A ns) ∙ length-append (filter (λ n. not (A n)) ns) (filter A ns) in
           let s₂ : length ns ≡ length (filter (λ n. not (B n)) ns) + length (filter B ns) = perm-length (keep-split B ns) ∙ length-append (filter (λ n. not (B n)) ns) (filter B ns) in
-          let ih : length (filter (inside B) bs) + length ns ≤ length bs + length (filter B ns) = r B (either-left (A p) (eqb p (x .v)) h) (omega arith) in
+          let ih : length (filter (inside B) bs) + length ns ≤ length bs + length (filter B ns) = r B (or-left (A p) (eqb p (x .v)) h) (omega arith) in
           omega (arith, keep-add A (x .v) ns d)
         where
-          up : (x : Bond) → A (x .u) ≡ true → A (x .v) ≡ false → Mem x bs ⊎ Mem (turn x) bs → ((b : Bond) → inside A b ≡ true → inside (λ n. either (A n) (eqb n (x .v))) b ≡ true)
-              → either (A (x .u)) (eqb (x .u) (x .v)) ≡ true → either (A (x .v)) (eqb (x .v) (x .v)) ≡ true → length (filter (inside A) bs) + 1 ≤ length (filter (inside (λ n. either (A n) (eqb n (x .v)))) bs)
-          up x g o (inl m) w y z = keep-more (inside A) (inside (λ n. either (A n) (eqb n (x .v)))) bs w m (rw (g, o)) (both-true (either (A (x .u)) (eqb (x .u) (x .v))) (either (A (x .v)) (eqb (x .v) (x .v))) y z)
-          up x g o (inr m) w y z = keep-more (inside A) (inside (λ n. either (A n) (eqb n (x .v)))) bs w m (rw o) (both-true (either (A (x .v)) (eqb (x .v) (x .v))) (either (A (x .u)) (eqb (x .u) (x .v))) z y)
+          up : (x : Bond) → A (x .u) ≡ true → A (x .v) ≡ false → Mem x bs ⊎ Mem (turn x) bs → ((b : Bond) → inside A b ≡ true → inside (λ n. A n || eqb n (x .v)) b ≡ true)
+              → (A (x .u) || eqb (x .u) (x .v)) ≡ true → (A (x .v) || eqb (x .v) (x .v)) ≡ true → length (filter (inside A) bs) + 1 ≤ length (filter (inside (λ n. A n || eqb n (x .v))) bs)
+          up x g o (inl m) w y z = keep-more (inside A) (inside (λ n. A n || eqb n (x .v))) bs w m (rw (g, o)) (both-true (A (x .u) || eqb (x .u) (x .v)) (A (x .v) || eqb (x .v) (x .v)) y z)
+          up x g o (inr m) w y z = keep-more (inside A) (inside (λ n. A n || eqb n (x .v))) bs w m (rw o) (both-true (A (x .v) || eqb (x .v) (x .v)) (A (x .u) || eqb (x .u) (x .v)) z y)
 
   pub inside-bound : (A : ℕ → Bool) (p : ℕ) → Mem p ns → A p ≡ true → length (filter (inside A) bs) + length ns ≤ length bs + length (filter A ns)
   inside-bound A p i h = grows (length (filter (λ n. not (A n)) ns)) A p i h (omega arith)
@@ -150,14 +128,14 @@ abbrev pub Meets : ℕ → Bond → Type 0
 Meets n b = (b .u ≡ n) ⊎ (b .v ≡ n)
 
 -- a walk from bond to touching bond inside s
-pub data Walk (s : List Bond) : Bond → Bond → Type 0 where
-  stop : {b c : Bond} → b ≡ c → Walk s b c
-  step : {b c d : Bond} (n : ℕ) → Meets n b → Meets n c → Mem c s → Walk s c d → Walk s b d
+pub data BondWalk (s : List Bond) : Bond → Bond → Type 0 where
+  stop : {b c : Bond} → b ≡ c → BondWalk s b c
+  step : {b c d : Bond} (n : ℕ) → Meets n b → Meets n c → Mem c s → BondWalk s c d → BondWalk s b d
 
-pub record Connected (s : List Bond) : Type 0 where
+pub record ConnectedBonds (s : List Bond) : Type 0 where
   pub some : Bond
   pub in-it : Mem some s
-  pub walk : (b c : Bond) → Mem b s → Mem c s → Walk s b c
+  pub walk : (b c : Bond) → Mem b s → Mem c s → BondWalk s b c
 
 mixed : (S : ℕ → Bool) (s : List Bond) (b : Bond) (p n : ℕ) → Mem b s → Meets p b → Meets n b → S p ≡ true → S n ≡ false → (x : Bond) × Mem x (arcs s) × (S (x .u) ≡ true) × (S (x .v) ≡ false)
 mixed S s b p n m (inl e) (inl f) g h = absurd (not-both (ap S (sym f ∙ e) ∙ g) h)
@@ -165,7 +143,7 @@ mixed S s b p n m (inl e) (inr f) g h = (b, arcs-mem s m, ap S e ∙ g, ap S f �
 mixed S s b p n m (inr e) (inl f) g h = (turn b, arcs-turn s (arcs-mem s m), ap S e ∙ g, ap S f ∙ h)
 mixed S s b p n m (inr e) (inr f) g h = absurd (not-both (ap S (sym f ∙ e) ∙ g) h)
 
-walk-mixed : (S : ℕ → Bool) (s : List Bond) {b c : Bond} (p q : ℕ) → Walk s b c → Mem b s → Meets p b → Meets q c → S p ≡ true → S q ≡ false → (x : Bond) × Mem x (arcs s) × (S (x .u) ≡ true) × (S (x .v) ≡ false)
+walk-mixed : (S : ℕ → Bool) (s : List Bond) {b c : Bond} (p q : ℕ) → BondWalk s b c → Mem b s → Meets p b → Meets q c → S p ≡ true → S q ≡ false → (x : Bond) × Mem x (arcs s) × (S (x .u) ≡ true) × (S (x .v) ≡ false)
 walk-mixed S s {b} p q (stop e) m i j g h = mixed S s b p q m i (rw (← e) at j) g h
 walk-mixed S s {b} p q (step n k l o w) m i j g h = go (two (S n)) (λ z. walk-mixed S s n q w o l j z h)
   where
@@ -181,7 +159,7 @@ meets-some s n {x} m e = go (arc-bond s m)
     go (inr i) = (turn x, i, inl e)
 
 -- A connected set s of bonds of a tree, with its atoms ms, is a tree
-pub connected-tree : (ns : List ℕ) (bs : List Bond) → Treelike ns bs → (s rest : List Bond) → Perm bs (s ++ rest) → Connected s → (ms : List ℕ) → Distinct ms
+pub connected-tree : (ns : List ℕ) (bs : List Bond) → Treelike ns bs → (s rest : List Bond) → Perm bs (s ++ rest) → ConnectedBonds s → (ms : List ℕ) → Distinct ms
     → ((x : Bond) → Mem x (arcs s) → Mem (x .u) ms × Mem (x .v) ms) → ((n : ℕ) → Mem n ms → (x : Bond) × Mem x (arcs s) × (x .v ≡ n)) → Treelike ms s
 connected-tree ns bs t s rest p c ms d ends meet =
     let first-atom : Mem (c .some .v) ms = ends (c .some) (arcs-mem s (c .in-it)) .1 in
@@ -206,7 +184,7 @@ connected-tree ns bs t s rest p c ms d ends meet =
         go (inl e) r = rw e (omega arith)
         go (inr e) r = rw e r
 
-    linked : Linked ms s
+    linked : Crossed ms s
     linked S a b i j g h =
         let (x, k, e) = meet a i in
         let (y, l, f) = meet b j in

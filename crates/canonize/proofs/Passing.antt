@@ -15,11 +15,11 @@ use Rattle.canonize.specs.Inner.Places.{Least, After}
 use Rattle.canonize.proofs.Sorting.{lexle-refl, lexle-trans, lexle-turn}
 
 -- a turn: i is passed, and r is left
-pub record Turn (set rest i r : ℕ) : Type 0 where
+pub record PassedOne (set rest i r : ℕ) : Type 0 where
   pub within : Sub r set
   pub passed : diff set r ≡ bitOr (diff set rest) (2 ^ i)
 
-pub turn : {set rest i r : ℕ} → Sub rest set → Lowest rest i → WithoutLowest rest r → Turn set rest i r
+pub turn : {set rest i r : ℕ} → Sub rest set → Lowest rest i → WithoutLowest rest r → PassedOne set rest i r
 turn {set} {rest} {i} {r} h l w =
     let e : r ≡ diff rest (2 ^ i) = rw (l .is) (w .is) in
     let m : Sub (2 ^ i) set = one-sub set i (sub-in rest set h i (l .member)) in

@@ -5,7 +5,7 @@ use mathlib.Core.Path.{_≡_, refl, sym, ap, ap₂, subst, _∙_}
 use mathlib.Core.Logic.{_⊎_, inl, inr}
 use mathlib.Core.Bool.{Bool, true, false, not, _&&_}
 use mathlib.Core.List.{List, [], _∷_, _++_, map, map-map, List·Memᴰ as Mem, List·Memᴰ·head as m-head, List·Permᴰ as Perm, List·Permᴰ·nil as p-nil, List·Permᴰ·cons as p-cons, List·Permᴰ·swap as p-swap, List·Permᴰ·trans as p-trans, Permᴰ·symm as perm-sym}
-use Prim.Native.Nat.{ℕ, zero, suc, _+_, _*_}
+use Prim.Native.Nat.{ℕ, zero, suc, _*_}
 use native.Mathlib.Omega.{arith}
 use lib.ListN.{length, length-map}
 use lib.Dec.{eqb}
@@ -13,7 +13,7 @@ use Rattle.molecule.proofs.Perms.{perm-cons, Out, first, later, perm-append, pe
 use Rattle.canonize.specs.Fragment.{Bond, Frag, arcs, endAtom, more, toEnds, turn}
 use Rattle.molecule.specs.Lists.{filter}
 use Rattle.canonize.proofs.Wrapping.{collapse-canonical}
-use Rattle.canonize.proofs.RoseTrees.{Kids, nil, kid, Tree, strings, nodeCode, code, twoCode, perm-two}
+use Rattle.canonize.proofs.RoseTrees.{Kids, nil, kid, RoseTree, strings, nodeCode, code, twoCode, perm-two}
 
 abbrev pub onBond : (ℕ → ℕ) → Bond → Bond
 onBond f b = record { u = f (b .u); v = f (b .v); code = b .code }
@@ -56,7 +56,7 @@ module _ (elem : ℕ → ℕ) where
   unfolding treePeel
   settle-stop k d e = rw (e, treePeel)
 
-  abbrev pub treeAt : TreePeel → ℕ → Tree
+  abbrev pub treeAt : TreePeel → ℕ → RoseTree
   treeAt d n = record { atom = n; elem = elem n; kids = d .under n }
 
   -- one atom left, or two with their bond; nothing else is left of a tree
@@ -88,7 +88,7 @@ pub record Joined (a b : Frag) : Type 0 where
   pub bonds : Perm (map (onBond f) (arcs (a .bonds))) (arcs (b .bonds))
 
 -- well formed: the atoms are different and the bonds' ends are among them
-pub record Formed (a : Frag) : Type 0 where
+pub record FormedFrag (a : Frag) : Type 0 where
   pub distinct : Distinct (a .atoms)
   pub ends : (x : Bond) → Mem x (arcs (a .bonds)) → Mem (x .u) (a .atoms) × Mem (x .v) (a .atoms)
 
@@ -117,7 +117,7 @@ arcs-keep p s (b ∷ bs) = go (two (p b)) (arcs-keep p s bs)
     go (inl h) r = rw (s b, h) (ap (λ (l : List Bond). b ∷ turn b ∷ l) r)
     go (inr h) r = rw (s b, h) r
 
-both-swap : (a b : Bool) → both a b ≡ both b a
+pub both-swap : (a b : Bool) → both a b ≡ both b a
 both-swap true true = refl
 both-swap true false = refl
 both-swap false true = refl
@@ -232,7 +232,7 @@ module _ (s : List ℕ) (f elem elem₂ : ℕ → ℕ) (inj : (a b : ℕ) → Me
   finish-alike d e r = last-alike d e r (d .present) (e .present) (r .present) (r .inside)
 
 -- isomorphic fragments have equal labels, of whatever shape
-pub label-of-joined : (a b : Frag) → Formed a → Formed b → Joined a b → treeLabel a ≡ treeLabel b
+pub label-of-joined : (a b : Frag) → FormedFrag a → FormedFrag b → Joined a b → treeLabel a ≡ treeLabel b
 unfolding treeLabel strings
 label-of-joined a b g h j =
     let inj : (m n : ℕ) → Mem m (a .atoms) → Mem n (a .atoms) → j .f m ≡ j .f n → m ≡ n = λ m n p q e. map-distinct (j .f) (distinct-perm (perm-sym (j .onto)) (h .distinct)) p q e in

@@ -1,10 +1,10 @@
 -- The isomorphism in the words of graph theory: a map of atoms, one to one and onto, that keeps elements, with p and q bonded by code c
 -- exactly when their images are. On clean fragments it is the same as Joined.
-use Rattle.bitset.proofs.Bools.{two}
+use Rattle.bitset.proofs.Bools.{two, or-true, or-right}
 use borrow.Author.Tests.{eqb-true}
 use mathlib.Core.Path.{_≡_, refl, sym, ap, ap₂, _∙_}
 use mathlib.Core.Logic.{_⊎_, inl, inr, _↔_}
-use mathlib.Core.Bool.{Bool, true, false, not}
+use mathlib.Core.Bool.{Bool, true, false, not, _||_}
 use mathlib.Core.List.{List, [], _∷_, map, List·Memᴰ as Mem, List·Memᴰ·head as m-head, List·Memᴰ·tail as m-tail, Memᴰ·cast as mem-cast, Memᴰ·map as mem-map, Memᴰ·of-map as mem-of-map, Permᴰ·symm as perm-sym}
 use Prim.Native.Nat.{ℕ, _+_, _≤_}
 use native.Mathlib.Omega.{arith}
@@ -16,9 +16,9 @@ use Rattle.molecule.specs.Lists.{filter, numbersFrom}
 use Rattle.canonize.proofs.Peeling.{onBond, both, Joined}
 use Rattle.canonize.proofs.Rounds.{Treelike, arcs-turn}
 use Rattle.canonize.proofs.Hanging.{Clean, label-iff}
-use Rattle.canonize.proofs.Parts.{Connected, inside, inside-bound, arc-bond}
+use Rattle.canonize.proofs.Parts.{ConnectedBonds, inside, inside-bound, arc-bond}
 use Rattle.canonize.proofs.Facts.{distinct-image, joined-arc, joined-arc-onto, joined-injective, piece-clean}
-use Rattle.canonize.proofs.Transport.{distinct-same, either, right, or}
+use Rattle.canonize.proofs.Transport.{distinct-same}
 use Rattle.canonize.proofs.Choose.{piece-of, chosen-by}
 use Rattle.canonize.proofs.OfRecords.{Accepted, accepted-clean, molecule, fragment}
 use Rattle.canonize.proofs.OnStrings.{label-document}
@@ -47,12 +47,12 @@ no-loop ns b bs d s m e =
 
 no-parallel : (ns : List ℕ) (b : Bond) (bs : List Bond) → Distinct ns → Sparse ns (b ∷ bs) → Mem (b .u) ns → Mem b bs ⊎ Mem (turn b) bs → ⊥
 no-parallel ns b bs d s m w =
-    let A : ℕ → Bool = λ n. either (eqb n (b .u)) (eqb n (b .v)) in
-    let at-u : A (b .u) ≡ true = ap (λ (z : Bool). either z (eqb (b .u) (b .v))) (eqb-yes {a = b .u} refl) in
-    let at-v : A (b .v) ≡ true = right (eqb (b .v) (b .u)) (eqb-yes {a = b .v} refl) in
+    let A : ℕ → Bool = λ n. eqb n (b .u) || eqb n (b .v) in
+    let at-u : A (b .u) ≡ true = ap (λ (z : Bool). z || eqb (b .u) (b .v)) (eqb-yes {a = b .u} refl) in
+    let at-v : A (b .v) ≡ true = or-right (eqb (b .v) (b .u)) (eqb (b .v) (b .v)) (eqb-yes {a = b .v} refl) in
     let h : inside A b ≡ true = ap₂ both at-u at-v in
     let i : inside A (turn b) ≡ true = ap₂ both at-v at-u in
-    let few : length (filter A ns) ≤ 2 = distinct-le (filter A ns) (b .u ∷ b .v ∷ []) (keep-distinct A ns d) (λ z k. in-two z (or (eqb z (b .u)) (eqb z (b .v)) (keep-mem A ns k .1))) in
+    let few : length (filter A ns) ≤ 2 = distinct-le (filter A ns) (b .u ∷ b .v ∷ []) (keep-distinct A ns d) (λ z k. in-two z (or-true (eqb z (b .u)) (eqb z (b .v)) (keep-mem A ns k .1))) in
     let one : 1 ≤ length (filter (inside A) bs) = some A h i w in
     let two : 2 ≤ length (filter (inside A) (b ∷ bs)) = rw h (omega arith) in
     omega (arith, s A (b .u) m at-u)
@@ -148,7 +148,7 @@ label-isomorphism a b k l =
     (λ e. isomorphism-of-joined a b k l (label-iff a b k l .0 (label-document a ∙ e ∙ sym (label-document b))), λ i. sym (label-document a) ∙ label-iff a b k l .1 (joined-of-isomorphism a b k l i) ∙ label-document b)
 
 -- for sets of bond numbers of an accepted record
-pub fragment-clean : (a n : ℕ) (elem : ℕ → ℕ) (bond : ℕ → Bond) → Accepted a n elem bond → (p : ℕ → Bool) → Connected (map bond (filter p (numbersFrom 0 n))) → Clean (fragment a n elem bond p)
+pub fragment-clean : (a n : ℕ) (elem : ℕ → ℕ) (bond : ℕ → Bond) → Accepted a n elem bond → (p : ℕ → Bool) → ConnectedBonds (map bond (filter p (numbersFrom 0 n))) → Clean (fragment a n elem bond p)
 fragment-clean a n elem bond r p c =
     piece-clean (molecule a n elem bond) (accepted-clean a n elem bond r) (touchedBy (map bond (filter p (numbersFrom 0 n))) (numbersFrom 0 a)) (map bond (filter p (numbersFrom 0 n)))
     (piece-of (molecule a n elem bond) (accepted-clean a n elem bond r) (map bond (filter p (numbersFrom 0 n))) (map bond (filter (λ i. not (p i)) (numbersFrom 0 n))) (chosen-by bond (numbersFrom 0 n) p) c)

@@ -14,7 +14,7 @@ use Rattle.molecule.specs.Record.{endA, endB, code}
 use Rattle.molecule.specs.Touch.{bondsAt}
 use Rattle.canonize.specs.Strings.{collapse}
 use Rattle.canonize.specs.Inner.Slate.{slot, Slate}
-use Rattle.canonize.specs.Inner.Places.{Wrote, Inside, Room, Placed, LabelAt}
+use Rattle.canonize.specs.Inner.Places.{Wrote, InSlot, FreeSlot, SlotIs, LabelAt}
 use Rattle.canonize.specs.Inner.Words.{received, stringsAt, handed, centres}
 use Rattle.canonize.proofs.Wrapping.{length-collapse-two}
 use Rattle.canonize.proofs.Words.{strings-same}
@@ -32,7 +32,7 @@ pub record Begun (slate : Bytes) (k start : ℕ) (x : Bytes) (end : ℕ) (now : 
   pub wrote : Wrote slate start x end now
 
 module _ {slate : Bytes} {k start : ℕ} {x : Bytes} {end : ℕ} {now : Bytes} (w : Begun slate k start x end now) where
-  whole : Inside k start (length x)
+  whole : InSlot k start (length x)
   whole = record { within = w .within; from = omega (arith, w .at); to = omega (arith, w .at, w .short) }
 
   room : start + length x ≤ length slate
@@ -50,7 +50,7 @@ module _ {slate : Bytes} {k start : ℕ} {x : Bytes} {end : ℕ} {now : Bytes} (
   pub begun-short : (start ≤ end) × (end - start ≤ 389)
   begun-short = (omega (arith, w .wrote .place), omega (arith, w .wrote .place, w .short))
 
-  pub begun-placed : {then : Bytes} → Placed now k (take (end - start) (drop (391 * k + 2) now)) then → Placed slate k x then
+  pub begun-placed : {then : Bytes} → SlotIs now k (take (end - start) (drop (391 * k + 2) now)) then → SlotIs slate k x then
   begun-placed z = record {
     serves = z .serves;
     this = z .this ∙ rw (← (w .at)) (wrote-read (w .wrote) room);
@@ -105,7 +105,7 @@ module _ {r : Bytes} {s L i v : ℕ} {slate : Bytes} {start b : ℕ} (h : Hands 
   strings : stringsAt r s L (slot (set slate start b)) v ≡ stringsAt r s L (slot slate) v
   strings = left-same r s L i (h .left) slate (set slate start b) (begun-others first) v
 
-  pub hand-room : Room (received r s L v) (start + 1) (length (collapse (stringsAt r s L (slot (set slate start b)) v)))
+  pub hand-room : FreeSlot (received r s L v) (start + 1) (length (collapse (stringsAt r s L (slot (set slate start b)) v)))
   hand-room = rw strings (record {
     slot = i;
     inside = record { within = omega (arith, h .small); from = omega (arith, h .at); to = omega (arith, h .at, h .fits) };
@@ -124,19 +124,19 @@ module _ {r : Bytes} {s L i v : ℕ} {slate : Bytes} {start b : ℕ} (h : Hands 
 
 -- ---- one atom is left: its strings go to slot k
 
-pub centre-room : (r : Bytes) (s L v k start n : ℕ) → s < 2 ^ 64 → 64 ≤ k → k < 66 → start ≡ 391 * k + 2 → n ≤ 389 → Room (received r s L v) start n
+pub centre-room : (r : Bytes) (s L v k start n : ℕ) → s < 2 ^ 64 → 64 ≤ k → k < 66 → start ≡ 391 * k + 2 → n ≤ 389 → FreeSlot (received r s L v) start n
 centre-room r s L v k start n low high within at short = record {
   slot = k;
   inside = record { within = within; from = omega arith; to = omega arith };
   other = received-high r s L v low k high;
 }
 
-pub placed-label : {old : Bytes} {k : ℕ} {x now : Bytes} → Placed old k x now → LabelAt old k x now
+pub placed-label : {old : Bytes} {k : ℕ} {x now : Bytes} → SlotIs old k x now → LabelAt old k x now
 placed-label z = record { serves = z .serves; this = z .this; others = λ j _ n. z .others j n }
 
 -- ---- two atoms are left, the ends of bond i: their strings go to slot i first, and then, wrapped, to slot k
 
-pub record Ends (r : Bytes) (s L i k : ℕ) (slate : Bytes) (from : ℕ) : Type 0 where
+pub record OuterEnds (r : Bytes) (s L i k : ℕ) (slate : Bytes) (from : ℕ) : Type 0 where
   pub serves : Slate slate
   pub left : bit L i ≡ 1
   pub small : i < 64
@@ -145,7 +145,7 @@ pub record Ends (r : Bytes) (s L i k : ℕ) (slate : Bytes) (from : ℕ) : Type 
   pub at : from ≡ 391 * i + 2
   pub fits : length (centres r s L (slot slate) i) ≤ 389
 
-module _ {r : Bytes} {s L i k : ℕ} {slate : Bytes} {from : ℕ} (h : Ends r s L i k slate from) where
+module _ {r : Bytes} {s L i k : ℕ} {slate : Bytes} {from : ℕ} (h : OuterEnds r s L i k slate from) where
   abbrev string : ℕ → Bytes
   string v = collapse (stringsAt r s L (slot slate) v)
 
@@ -162,7 +162,7 @@ module _ {r : Bytes} {s L i k : ℕ} {slate : Bytes} {from : ℕ} (h : Ends r s 
   begun : {x : Bytes} {end : ℕ} {now : Bytes} → length x ≤ 384 → Wrote slate from x end now → Begun slate i from x end now
   begun l w = record { serves = h .serves; within = omega (arith, h .small); at = h .at; short = omega arith; wrote = w }
 
-  pub first-room : Room (received r s L (endA r i)) from (length one)
+  pub first-room : FreeSlot (received r s L (endA r i)) from (length one)
   first-room = record {
     slot = i;
     inside = record { within = omega (arith, h .small); from = omega (arith, h .at); to = omega (arith, h .at, both-short) };
@@ -179,7 +179,7 @@ module _ {r : Bytes} {s L i k : ℕ} {slate : Bytes} {from : ℕ} (h : Ends r s 
     strings-two : stringsAt r s L (slot then) (endB r i) ≡ stringsAt r s L (slot slate) (endB r i)
     strings-two = left-same r s L i (h .left) slate then (begun-others upper) (endB r i)
 
-    pub second-room : Room (received r s L (endB r i)) middle (length (collapse (stringsAt r s L (slot then) (endB r i))))
+    pub second-room : FreeSlot (received r s L (endB r i)) middle (length (collapse (stringsAt r s L (slot then) (endB r i))))
     second-room = rw strings-two (record {
       slot = i;
       inside = record { within = omega (arith, h .small); from = omega (arith, h .at, w .place); to = omega (arith, h .at, w .place, both-short) };
@@ -234,7 +234,7 @@ module _ {r : Bytes} {s L i k : ℕ} {slate : Bytes} {from : ℕ} (h : Ends r s 
         }
 
         pub centres-label : {last : ℕ} {now done : Bytes} → Begun both k start (centres r s L (slot slate) i) last now
-            → Placed now k (take (last - start) (drop (391 * k + 2) now)) done
+            → SlotIs now k (take (last - start) (drop (391 * k + 2) now)) done
             → LabelAt slate k (centres r s L (slot slate) i) done
         centres-label u z =
             let p = begun-placed u z in

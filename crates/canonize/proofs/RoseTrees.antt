@@ -15,7 +15,7 @@ pub data Kids : Type 0 where
   nil : Kids
   kid : (bond atom elem : ℕ) (under rest : Kids) → Kids
 
-pub record Tree : Type 0 where
+pub record RoseTree : Type 0 where
   pub atom : ℕ
   pub elem : ℕ
   pub kids : Kids
@@ -24,7 +24,7 @@ unfoldable pub bondsIn : Kids → ℕ
 bondsIn nil = 0
 bondsIn (kid b a e u r) = 1 + bondsIn u + bondsIn r
 
-abbrev pub bonds : Tree → ℕ
+abbrev pub bonds : RoseTree → ℕ
 bonds t = bondsIn (t .kids)
 
 -- the strings that the children hand to their parent
@@ -36,7 +36,7 @@ strings (kid b a e u r) = (b ∷ collapse ((e ∷ []) ∷ strings u)) ∷ string
 abbrev pub nodeCode : ℕ → Kids → List ℕ
 nodeCode e u = collapse ((e ∷ []) ∷ strings u)
 
-abbrev pub code : Tree → List ℕ
+abbrev pub code : RoseTree → List ℕ
 code t = nodeCode (t .elem) (t .kids)
 
 -- codes are neither 0 nor 255
@@ -47,7 +47,7 @@ abbrev pub GoodKids : Kids → Type 0
 GoodKids nil = Unit {0}
 GoodKids (kid b a e u r) = Code b × Code e × GoodKids u × GoodKids r
 
-abbrev pub Good : Tree → Type 0
+abbrev pub Good : RoseTree → Type 0
 Good t = Code (t .elem) × GoodKids (t .kids)
 
 -- lengths
@@ -60,7 +60,7 @@ strings-total (kid b a e u r) =
 pub nodeCode-length : (e : ℕ) (u : Kids) → length (nodeCode e u) ≡ 6 * bondsIn u + 3
 nodeCode-length e u = omega (arith, length-collapse ((e ∷ []) ∷ strings u), total-cons (e ∷ []) (strings u), strings-total u)
 
-pub code-length : (t : Tree) → length (code t) ≡ 6 * bonds t + 3
+pub code-length : (t : RoseTree) → length (code t) ≡ 6 * bonds t + 3
 code-length t = nodeCode-length (t .elem) (t .kids)
 
 -- an atom's own string has one byte, a child's at least four
@@ -79,7 +79,7 @@ strings-balanced (kid b a e u r) g =
 pub node-balanced : (e : ℕ) (u : Kids) → Code e → GoodKids u → All Balanced ((e ∷ []) ∷ strings u)
 node-balanced e u c g = both (free (c .0) (c .1) done) (strings-balanced u g)
 
-pub code-balanced : (t : Tree) → Good t → Balanced (code t)
+pub code-balanced : (t : RoseTree) → Good t → Balanced (code t)
 code-balanced t g = collapse-balanced (node-balanced (t .elem) (t .kids) (g .0) (g .1))
 
 -- a child taken out of the children, and what is left
@@ -93,7 +93,7 @@ pub data Like : Kids → Kids → Type 0 where
   pair : {b a e b₁ a₁ e₁ : ℕ} {u r u₁ r₁ k : Kids} → Kid k b₁ a₁ e₁ u₁ r₁ → b ≡ b₁ → e ≡ e₁ → Like u u₁ → Like r r₁ → Like (kid b a e u r) k
 
 infix 50 _≈_
-abbrev pub _≈_ : Tree → Tree → Type 0
+abbrev pub _≈_ : RoseTree → RoseTree → Type 0
 x ≈ y = (x .elem ≡ y .elem) × Like (x .kids) (y .kids)
 
 -- equal codes give one shape
@@ -146,21 +146,21 @@ like-of-perm (kid b a e u r) l g h p =
     let n : (e ≡ t .elem) × Perm (strings u) (strings (t .under)) = node-parts e (t .elem) u (t .under) (g .1) (i .1) (g .2) (i .2) (tail-eq-of-cons-eq (t .string)) in
     pair (t .out) (head-eq-of-cons-eq (t .string)) (n .0) (like-of-perm u (t .under) (g .2) (i .2) (n .1)) (like-of-perm r (t .rest) (g .3) (i .3) (rw (t .strings-left) at d))
 
-pub shape-of-code : (x y : Tree) → Good x → Good y → code x ≡ code y → x ≈ y
+pub shape-of-code : (x y : RoseTree) → Good x → Good y → code x ≡ code y → x ≈ y
 shape-of-code x y g h q =
     let n : (x .elem ≡ y .elem) × Perm (strings (x .kids)) (strings (y .kids)) = node-parts (x .elem) (y .elem) (x .kids) (y .kids) (g .0) (h .0) (g .1) (h .1) q in
     (n .0, like-of-perm (x .kids) (y .kids) (g .1) (h .1) (n .1))
 
 -- Two centres: bond code, then the two codes wrapped, the smaller first
-unfoldable pub twoCode : ℕ → Tree → Tree → List ℕ
+unfoldable pub twoCode : ℕ → RoseTree → RoseTree → List ℕ
 twoCode b x y = b ∷ collapse (code x ∷ code y ∷ [])
 
-pub twoCode-length : (b : ℕ) (x y : Tree) → length (twoCode b x y) ≡ 6 * (1 + bonds x + bonds y) + 5
+pub twoCode-length : (b : ℕ) (x y : RoseTree) → length (twoCode b x y) ≡ 6 * (1 + bonds x + bonds y) + 5
 unfolding twoCode total
 twoCode-length b x y = omega (arith, length-collapse (code x ∷ code y ∷ []), code-length x, code-length y)
 
 -- one centre against two: the lengths differ modulo 6
-pub one-not-two : (b : ℕ) (x y z : Tree) → code x ≡ twoCode b y z → ⊥
+pub one-not-two : (b : ℕ) (x y z : RoseTree) → code x ≡ twoCode b y z → ⊥
 one-not-two b x y z q = omega (arith, ap length q, code-length x, twoCode-length b y z)
 
 out-one : {A : Type 0} {x y : A} {zs : List A} → Out x (y ∷ []) zs → x ≡ y
@@ -174,7 +174,7 @@ perm-two {A} {x} {y} {v} {w} p = let (zs, o, d) = perm-cons p in go zs o d
     go zs (first q) d = let (ws, o, f) = perm-cons d in inl (q, out-one o)
     go zs (later (first q)) d = let (ws, o, f) = perm-cons d in inr (q, out-one o)
 
-pub shape-of-two : (b b₁ : ℕ) (x y v w : Tree) → Good x → Good y → Good v → Good w → twoCode b x y ≡ twoCode b₁ v w → (b ≡ b₁) × (((x ≈ v) × (y ≈ w)) ⊎ ((x ≈ w) × (y ≈ v)))
+pub shape-of-two : (b b₁ : ℕ) (x y v w : RoseTree) → Good x → Good y → Good v → Good w → twoCode b x y ≡ twoCode b₁ v w → (b ≡ b₁) × (((x ≈ v) × (y ≈ w)) ⊎ ((x ≈ w) × (y ≈ v)))
 unfolding twoCode
 shape-of-two b b₁ x y v w gx gy gv gw q =
     (head-eq-of-cons-eq q, go (perm-two (collapse-perm (both (code-balanced x gx) (both (code-balanced y gy) none)) (both (code-balanced v gv) (both (code-balanced w gw) none)) (tail-eq-of-cons-eq q))))

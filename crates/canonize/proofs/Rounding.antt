@@ -15,7 +15,7 @@ use Rattle.molecule.specs.Record.{endA, endB, code}
 use Rattle.molecule.specs.Connected.{Own}
 use Rattle.canonize.specs.Strings.{collapse}
 use Rattle.canonize.specs.Inner.Slate.{slot, Slate}
-use Rattle.canonize.specs.Inner.Places.{Placed}
+use Rattle.canonize.specs.Inner.Places.{SlotIs}
 use Rattle.canonize.specs.Inner.Words.{isTip, hasTip, outer, tip, handed, Fits, Round}
 use Rattle.canonize.proofs.Words.{outer-in, outer-has, strings-same}
 
@@ -82,7 +82,7 @@ module _ {r : Bytes} {s L : ℕ} {old : Bytes} {rest taken : ℕ} {now : Bytes} 
     handed-fits o f {v} t = omega (arith, ap length (handed-same v ∙ ap (handed r s L (slot old) i) (sym (t .is))), f i (outer-has r L i o next-left (t .has)))
 
     -- it has an end atom, and has handed over
-    pub rounding-hand : {v : ℕ} → Tip r L i v → {then : Bytes} → Placed now i (handed r s L (slot now) i v) then
+    pub rounding-hand : {v : ℕ} → Tip r L i v → {then : Bytes} → SlotIs now i (handed r s L (slot now) i v) then
         → Rounding r s L old next (bitOr taken (2 ^ i)) then
     rounding-hand {v} t {then} z = record {
       within = next-in;

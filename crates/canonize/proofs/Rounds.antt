@@ -1,9 +1,9 @@
 -- Peeling a tree: every round leaves a tree, and what hangs under the atoms holds each bond taken off exactly once.
-use Rattle.bitset.proofs.Bools.{two}
-use borrow.Author.Tests.{eqb-false, eqb-true}
+use Rattle.bitset.proofs.Bools.{two, or-true, or-right, and-true}
+use borrow.Author.Tests.{eqb-false, eqb-true, not-true}
 use mathlib.Core.Path.{_≡_, refl, sym, ap, ap₂, _∙_}
 use mathlib.Core.Logic.{_⊎_, inl, inr}
-use mathlib.Core.Bool.{Bool, true, false, not, _&&_}
+use mathlib.Core.Bool.{Bool, true, false, not, _&&_, _||_}
 use mathlib.Core.List.{List, [], _∷_, _++_, map, append-assoc, append-nil, map-map, List·Memᴰ as Mem, List·Memᴰ·head as m-head, List·Memᴰ·tail as m-tail, Memᴰ·append-left as mem-left, List·Permᴰ as Perm, List·Permᴰ·nil as p-nil, List·Permᴰ·cons as p-cons, List·Permᴰ·swap as p-swap, List·Permᴰ·trans as p-trans, Permᴰ·refl as perm-refl, Permᴰ·symm as perm-sym, Permᴰ·append-left as perm-left, Permᴰ·append-right as perm-right}
 use Prim.Native.Nat.{ℕ, _+_, _*_, _≤_, _<_}
 use native.Mathlib.Omega.{arith}
@@ -16,7 +16,7 @@ use Rattle.molecule.specs.Lists.{filter, pick}
 use Rattle.canonize.proofs.RoseTrees.{Kids, code}
 use Rattle.canonize.proofs.Pairing.{Item, item, items}
 use Rattle.canonize.proofs.Sums.{flat, flat-append, flat-perm, flat-agree, flat-split, flat-length, flat-map, map-flat, flat-flat, flat-keep, group, keep-both}
-use Rattle.canonize.proofs.Peeling.{both, gather, arcs-length, arcs-keep}
+use Rattle.canonize.proofs.Peeling.{both, both-swap, gather, arcs-length, arcs-keep}
 
 -- A tree: the atoms are different, the bonds' ends are among them, there is one atom more than bonds,
 -- and whatever set of atoms is neither none nor all of them is left by a bond.
@@ -88,17 +88,6 @@ third-of (a ∷ []) p q e d = absurd (not-both e refl)
 third-of (a ∷ b ∷ []) p q e d = absurd (not-both e refl)
 third-of (a ∷ b ∷ c ∷ r) p q e d = third a b c r p q d
 
-abbrev either : Bool → Bool → Bool
-either a b = pick a true b
-
-either-true : (a b : Bool) → either a b ≡ true → (a ≡ true) ⊎ (b ≡ true)
-either-true true b e = inl refl
-either-true false b e = inr e
-
-either-right : (a b : Bool) → b ≡ true → either a b ≡ true
-either-right true b e = refl
-either-right false b e = e
-
 -- the bonds that stay when the atoms E go, and the arcs to those that go
 abbrev pub stay : (ℕ → Bool) → List Bond → List Bond
 stay E bs = filter (λ (b : Bond). both (not (E (b .u))) (not (E (b .v)))) bs
@@ -139,42 +128,24 @@ flat-single : {A B : Type 0} (f : A → B) (l : List A) → flat (λ x. f x ∷ 
 flat-single f [] = refl
 flat-single f (x ∷ l) = ap (λ z. f x ∷ z) (flat-single f l)
 
-both-left : (a b : Bool) → both a b ≡ true → a ≡ true
-both-left true b e = refl
-both-left false b e = e
-
-both-right : (a b : Bool) → both a b ≡ true → b ≡ true
-both-right true b e = e
-both-right false b e = absurd (not-both e refl)
-
-pub not-true : (a : Bool) → not a ≡ true → a ≡ false
-not-true true e = sym e
-not-true false e = refl
-
-both-swap : (a b : Bool) → both a b ≡ both b a
-both-swap true true = refl
-both-swap true false = refl
-both-swap false true = refl
-both-swap false false = refl
-
 module _ (ns : List ℕ) (bs : List Bond) (t : Treelike ns bs) (m : more ns ≡ true) where
   -- two end atoms are never joined
   pub ends-apart : (x : Bond) → Mem x (arcs bs) → endAtom (arcs bs) (x .u) ≡ true → endAtom (arcs bs) (x .v) ≡ true → ⊥
   ends-apart x i p q =
       let (n, j, f, g) = third-of ns (x .u) (x .v) m (t .distinct) in
-      let S : ℕ → Bool = λ k. either (eqb k (x .u)) (eqb k (x .v)) in
-      let yes-u : S (x .u) ≡ true = ap (λ (z : Bool). either z (eqb (x .u) (x .v))) (eqb-yes {a = x .u} refl) in
-      let not-n : S n ≡ false = ap₂ either (eqb-no f) (eqb-no g) in
+      let S : ℕ → Bool = λ k. eqb k (x .u) || eqb k (x .v) in
+      let yes-u : S (x .u) ≡ true = ap (λ (z : Bool). z || eqb (x .u) (x .v)) (eqb-yes {a = x .u} refl) in
+      let not-n : S n ≡ false = ap₂ _||_ (eqb-no f) (eqb-no g) in
       let (y, k, h, l) = t .linked S (x .u) n (t .ends x i .0) j yes-u not-n in
-      go y k l (either-true (eqb (y .u) (x .u)) (eqb (y .u) (x .v)) h)
+      go y k l (or-true (eqb (y .u) (x .u)) (eqb (y .u) (x .v)) h)
     where
-      go : (y : Bond) → Mem y (arcs bs) → either (eqb (y .v) (x .u)) (eqb (y .v) (x .v)) ≡ false → (eqb (y .u) (x .u) ≡ true) ⊎ (eqb (y .u) (x .v) ≡ true) → ⊥
+      go : (y : Bond) → Mem y (arcs bs) → (eqb (y .v) (x .u) || eqb (y .v) (x .v)) ≡ false → (eqb (y .u) (x .u) ≡ true) ⊎ (eqb (y .u) (x .v) ≡ true) → ⊥
       go y k l (inl h) =
           let e : turn y ≡ turn x = end-one (arcs bs) (x .u) p (arcs-turn bs k) (arcs-turn bs i) (eqb-true (y .u) (x .u) h) refl in
-          not-both (either-right (eqb (y .v) (x .u)) (eqb (y .v) (x .v)) (eqb-yes (ap (λ (b : Bond). b .u) e))) l
+          not-both (or-right (eqb (y .v) (x .u)) (eqb (y .v) (x .v)) (eqb-yes (ap (λ (b : Bond). b .u) e))) l
       go y k l (inr h) =
           let e : turn y ≡ x = end-one (arcs bs) (x .v) q (arcs-turn bs k) i (eqb-true (y .u) (x .v) h) refl in
-          not-both (ap (λ (z : Bool). either z (eqb (y .v) (x .v))) (eqb-yes (ap (λ (b : Bond). b .u) e))) l
+          not-both (ap (λ (z : Bool). z || eqb (y .v) (x .v)) (eqb-yes (ap (λ (b : Bond). b .u) e))) l
 
   -- every atom has a bond
   degree-pos : (n : ℕ) → Mem n ns → 1 ≤ degree (arcs bs) n
@@ -296,7 +267,7 @@ module _ (ns : List ℕ) (bs : List Bond) (t : Treelike ns bs) (m : more ns ≡ 
         ends = λ x i.
             let (j, k) = keep-mem p (arcs bs) (rw stay-arcs at i) in
             let h = t .ends x j in
-            (keep-intro (λ (n : ℕ). not (E n)) ns (h .0) (both-left (not (E (x .u))) (not (E (x .v))) k), keep-intro (λ (n : ℕ). not (E n)) ns (h .1) (both-right (not (E (x .u))) (not (E (x .v))) k));
+            (keep-intro (λ (n : ℕ). not (E n)) ns (h .0) (and-true (not (E (x .u))) (not (E (x .v))) k .0), keep-intro (λ (n : ℕ). not (E n)) ns (h .1) (and-true (not (E (x .u))) (not (E (x .v))) k .1));
         count =
             omega (
               arith,
@@ -365,4 +336,4 @@ module _ (ns : List ℕ) (bs : List Bond) (t : Treelike ns bs) (m : more ns ≡ 
 
       at : (n : ℕ) → Perm (items n (gather elem T (toEnds (endAtom (arcs bs)) n (arcs bs)) (T n))) (flat (λ x. toItem elem x ∷ below T (x .v)) (toEnds (endAtom (arcs bs)) n (arcs bs)) ++ below T n)
       at n = p-trans (perm-eq (gather-items elem T n (toEnds (endAtom (arcs bs)) n (arcs bs)) (T n))) (perm-right (below T n) (flat-agree (λ x. item n (x .code) (x .v) (elem (x .v)) ∷ below T (x .v)) (λ x. toItem elem x ∷ below T (x .v)) (toEnds (endAtom (arcs bs)) n (arcs bs))
-          (λ x i. p-cons (ap (λ (k : ℕ). item k (x .code) (x .v) (elem (x .v))) (sym (eqb-true (x .u) n (both-left (eqb (x .u) n) (endAtom (arcs bs) (x .v)) (keep-mem (λ (x : Bond). both (eqb (x .u) n) (endAtom (arcs bs) (x .v))) (arcs bs) i .1))))) (perm-refl (below T (x .v))))))
+          (λ x i. p-cons (ap (λ (k : ℕ). item k (x .code) (x .v) (elem (x .v))) (sym (eqb-true (x .u) n (and-true (eqb (x .u) n) (endAtom (arcs bs) (x .v)) (keep-mem (λ (x : Bond). both (eqb (x .u) n) (endAtom (arcs bs) (x .v))) (arcs bs) i .1) .0)))) (perm-refl (below T (x .v))))))

@@ -17,7 +17,7 @@ use Rattle.molecule.proofs.Lists.{zeros-at}
 use Rattle.molecule.proofs.Perms.{Order3, below, same, above, order3}
 use Rattle.canonize.specs.Strings.{lexLe}
 use Rattle.canonize.specs.Inner.Slate.{slotLength, slot, Slate}
-use Rattle.canonize.specs.Inner.Places.{written, Wrote, Apart, Inside, Room, Placed}
+use Rattle.canonize.specs.Inner.Places.{written, Wrote, NoneShared, InSlot, FreeSlot, SlotIs}
 use Rattle.canonize.proofs.Sorting.{lexle-below, lexle-above, lexle-same, lex→lexLe}
 use Rattle.canonize.proofs.Writing.{written-set, written-length, written-at, written-part, written-then, wrote-length}
 
@@ -77,7 +77,7 @@ module _ (slate : Bytes) (s : Slate slate) where
   slot-length i h = length-take-le (slotLength slate i) (drop (391 * i + 2) slate) (omega (arith, length-drop (391 * i + 2) slate, s .wide, slot-fits i))
 
   -- a string x is written inside slot t: no length changes, and no other string
-  module _ (t place : ℕ) (x : Bytes) (h : Inside t place (length x)) where
+  module _ (t place : ℕ) (x : Bytes) (h : InSlot t place (length x)) where
     pub inside-room : place + length x ≤ length slate
     inside-room = omega (arith, h .within, h .to, s .wide)
 
@@ -154,7 +154,7 @@ module _ (slate : Bytes) (s : Slate slate) where
         sides (yes g) = inl (omega arith)
         sides (no g) = inr (omega arith)
 
-    pub slot-set : Placed slate i (take n (drop (391 * i + 2) slate)) (set (set slate (391 * i) (n % 256)) (391 * i + 1) (n / 256))
+    pub slot-set : SlotIs slate i (take n (drop (391 * i + 2) slate)) (set (set slate (391 * i) (n % 256)) (391 * i + 1) (n / 256))
     unfolding slot low relength
     slot-set = record {
       serves = record {
@@ -172,22 +172,22 @@ module _ (slate : Bytes) (s : Slate slate) where
 -- ---- room beside the slots of a set
 
 -- a part of it, beside fewer slots
-pub room-part : {set place n : ℕ} → Room set place n → (t from m : ℕ) → Sub t set → place ≤ from → from + m ≤ place + n → Room t from m
+pub room-part : {set place n : ℕ} → FreeSlot set place n → (t from m : ℕ) → Sub t set → place ≤ from → from + m ≤ place + n → FreeSlot t from m
 room-part {set} room t from m h a b = record {
   slot = room .slot;
   inside = record { within = room .inside .within; from = omega (arith, room .inside .from); to = omega (arith, room .inside .to) };
   other = omega (arith, room .other, sub-bit t set (room .slot) h);
 }
 
-module _ {set place n : ℕ} (room : Room set place n) where
+module _ {set place n : ℕ} (room : FreeSlot set place n) where
   -- it is apart from them
-  pub room-apart : (j : ℕ) → bit set j ≡ 1 → Apart (391 * j) 391 place n
+  pub room-apart : (j : ℕ) → bit set j ≡ 1 → NoneShared (391 * j) 391 place n
   room-apart j h = go (decLt j (room .slot))
     where
       differ : j ≢ room .slot
       differ e = omega (arith, h, ap (bit set) e, room .other)
 
-      go : Dec (j < room .slot) → Apart (391 * j) 391 place n
+      go : Dec (j < room .slot) → NoneShared (391 * j) 391 place n
       go (yes g) = inl (omega (arith, room .inside .from))
       go (no g) = inr (omega (arith, room .inside .to, above g))
         where
@@ -198,7 +198,7 @@ module _ {set place n : ℕ} (room : Room set place n) where
   room-ends s = omega (arith, room .inside .within, room .inside .to, s .wide)
 
   module _ {start : Bytes} (s : Slate start) {x : Bytes} {next : ℕ} {now : Bytes} (w : Wrote start place x next now) (short : length x ≤ n) where
-    inside : Inside (room .slot) place (length x)
+    inside : InSlot (room .slot) place (length x)
     inside = record { within = room .inside .within; from = room .inside .from; to = omega (arith, room .inside .to) }
 
     pub room-fits : place + length x ≤ length start

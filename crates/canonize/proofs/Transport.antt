@@ -1,9 +1,9 @@
 -- two pieces with equal labels: what touches in the one has its like, with the label of the pair, in the other.
-use Rattle.bitset.proofs.Bools.{two}
+use Rattle.bitset.proofs.Bools.{two, or-true, or-right}
 use borrow.Author.Tests.{eqb-true}
 use mathlib.Core.Path.{_≡_, refl, sym, ap, ap₂, _∙_}
 use mathlib.Core.Logic.{_⊎_, inl, inr}
-use mathlib.Core.Bool.{Bool, true, false}
+use mathlib.Core.Bool.{Bool, true, false, _||_}
 use mathlib.Core.List.{List, [], _∷_, List·Memᴰ as Mem, List·Memᴰ·head as m-head, List·Memᴰ·tail as m-tail, Memᴰ·cast as mem-cast, List·Permᴰ as Perm, List·Permᴰ·nil as p-nil, List·Permᴰ·cons as p-cons, List·Permᴰ·trans as p-trans, Permᴰ·symm as perm-sym}
 use Prim.Native.Nat.{ℕ, _≤_}
 use native.Mathlib.Omega.{arith}
@@ -11,10 +11,10 @@ use lib.ListN.{length}
 use lib.Dec.{eqb}
 use Rattle.molecule.proofs.Perms.{not-both, out-perm, perm-length, perm-mem, Distinct, distinct-perm, keep-perm, keep-mem, keep-distinct, eqb-yes, mem-out, distinct-le}
 use Rattle.canonize.specs.Fragment.{Bond, Frag, arcs, labelOf, touchedBy, turn}
-use Rattle.molecule.specs.Lists.{filter, pick}
+use Rattle.molecule.specs.Lists.{filter}
 use Rattle.canonize.proofs.Peeling.{both, treeLabel}
 use Rattle.canonize.proofs.Rounds.{Treelike, arcs-mem, arcs-turn}
-use Rattle.canonize.proofs.Parts.{Connected, Walk, stop, step, Meets, inside, inside-bound}
+use Rattle.canonize.proofs.Parts.{ConnectedBonds, BondWalk, stop, step, Meets, inside, inside-bound}
 use Rattle.canonize.proofs.Facts.{part}
 
 -- two lists without repetition and with the same members
@@ -34,17 +34,6 @@ distinct-same {A} (x ∷ k) l d e f g =
 -- x is b in one of its two directions
 abbrev pub Along : Bond → Bond → Type 0
 Along x b = (x ≡ b) ⊎ (x ≡ turn b)
-
-abbrev pub either : Bool → Bool → Bool
-either a b = pick a true b
-
-pub right : (a : Bool) {d : Bool} → d ≡ true → either a d ≡ true
-right true q = refl
-right false q = q
-
-pub or : (a d : Bool) → either a d ≡ true → (a ≡ true) ⊎ (d ≡ true)
-or true d q = inl refl
-or false d q = inr q
 
 inside-along : (A : ℕ → Bool) (x b : Bond) → Along x b → A (x .u) ≡ true → A (x .v) ≡ true → inside A b ≡ true
 inside-along A x b (inl e) p q = ap₂ both (sym (ap (λ (z : Bond). A (z .u)) e) ∙ p) (sym (ap (λ (z : Bond). A (z .v)) e) ∙ q)
@@ -95,10 +84,10 @@ module _ (ns : List ℕ) (bs : List Bond) (t : Treelike ns bs) (b c : Bond) (res
 
       ring : x .u ≡ y .v → ⊥
       ring h =
-          let A : ℕ → Bool = λ n. either (eqb n (x .u)) (eqb n (x .v)) in
-          let at-u : A (x .u) ≡ true = ap (λ (z : Bool). either z (eqb (x .u) (x .v))) (eqb-yes {a = x .u} refl) in
-          let at-v : A (x .v) ≡ true = right (eqb (x .v) (x .u)) (eqb-yes {a = x .v} refl) in
-          let few : length (filter A ns) ≤ 2 = distinct-le (filter A ns) (x .u ∷ x .v ∷ []) (keep-distinct A ns (t .distinct)) (λ z k. in-two z (or (eqb z (x .u)) (eqb z (x .v)) (keep-mem A ns k .1))) in
+          let A : ℕ → Bool = λ n. eqb n (x .u) || eqb n (x .v) in
+          let at-u : A (x .u) ≡ true = ap (λ (z : Bool). z || eqb (x .u) (x .v)) (eqb-yes {a = x .u} refl) in
+          let at-v : A (x .v) ≡ true = or-right (eqb (x .v) (x .u)) (eqb (x .v) (x .v)) (eqb-yes {a = x .v} refl) in
+          let few : length (filter A ns) ≤ 2 = distinct-le (filter A ns) (x .u ∷ x .v ∷ []) (keep-distinct A ns (t .distinct)) (λ z k. in-two z (or-true (eqb z (x .u)) (eqb z (x .v)) (keep-mem A ns k .1))) in
           omega (arith, inside-bound ns bs (t .distinct) (t .ends) (t .linked) A (x .v) (t .ends x x-in .1) at-v, count-two A (inside-along A x b i at-u at-v) (inside-along A y c j (sym (ap A e) ∙ at-v) (sym (ap A h) ∙ at-u)), t .count)
         where
           in-two : (z : ℕ) → (eqb z (x .u) ≡ true) ⊎ (eqb z (x .v) ≡ true) → Mem z (x .u ∷ x .v ∷ [])
@@ -113,14 +102,14 @@ module _ (ns : List ℕ) (bs : List Bond) (t : Treelike ns bs) (b c : Bond) (res
 abbrev pub pairSet : Frag → Bond → Bond → Frag
 pairSet a b c = part a (touchedBy (b ∷ c ∷ []) (a .atoms)) (b ∷ c ∷ [])
 
-pair-connected : (b c : Bond) (n : ℕ) → Meets n b → Meets n c → Connected (b ∷ c ∷ [])
+pair-connected : (b c : Bond) (n : ℕ) → Meets n b → Meets n c → ConnectedBonds (b ∷ c ∷ [])
 pair-connected b c n p q = record { some = b; in-it = m-head refl; walk = walk }
   where
     move : {x y : Bond} → x ≡ y → Meets n y → Meets n x
     move e (inl h) = inl (ap (λ (z : Bond). z .u) e ∙ h)
     move e (inr h) = inr (ap (λ (z : Bond). z .v) e ∙ h)
 
-    walk : (x y : Bond) → Mem x (b ∷ c ∷ []) → Mem y (b ∷ c ∷ []) → Walk (b ∷ c ∷ []) x y
+    walk : (x y : Bond) → Mem x (b ∷ c ∷ []) → Mem y (b ∷ c ∷ []) → BondWalk (b ∷ c ∷ []) x y
     walk x y (m-head e) (m-head f) = stop (e ∙ sym f)
     walk x y (m-head e) (m-tail (m-head f)) = step n (move e p) (move f q) (m-tail (m-head f)) (stop refl)
     walk x y (m-tail (m-head e)) (m-head f) = step n (move e q) (move f p) (m-head f) (stop refl)
@@ -134,7 +123,7 @@ pub record Touching (s : List Bond) (b c : Bond) : Type 0 where
   pub at-b : Meets atom b
   pub at-c : Meets atom c
 
-pub record Paired (a b : Frag) (c d : Bond) : Type 0 where
+pub record PairFound (a b : Frag) (c d : Bond) : Type 0 where
   pub first-bond : Bond
   pub second-bond : Bond
   pub touching : Touching (b .bonds) first-bond second-bond

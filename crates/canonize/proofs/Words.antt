@@ -1,5 +1,5 @@
 -- A peeling by words: the set L of the bonds left, and for each bond taken off the string X that it handed over.
-use borrow.Author.Tests.{eqb-true, le-ltb, lt-ltb}
+use borrow.Author.Tests.{eqb-true, le-ltb, lt-ltb, not-true}
 use mathlib.Core.Path.{_≡_, refl, sym, ap, ap₂, _∙_}
 use mathlib.Core.Logic.{_⊎_, inl, inr, _≢_, ⊎-elim}
 use mathlib.Core.Bool.{Bool, true, false, not, _&&_, _||_}
@@ -32,7 +32,7 @@ use Rattle.canonize.proofs.RoseTrees.{nodeCode-length}
 use Rattle.canonize.proofs.Pairing.{Item, items, items-length}
 use Rattle.canonize.proofs.Sums.{flat}
 use Rattle.canonize.proofs.Peeling.{TreePeel, treeStart, treeRound, arcs-length}
-use Rattle.canonize.proofs.Rounds.{Treelike, not-true, stay, arcs-mem, below, toBond, ends-apart, round-shorter, round-tree}
+use Rattle.canonize.proofs.Rounds.{Treelike, stay, arcs-mem, below, toBond, ends-apart, round-shorter, round-tree}
 use Rattle.canonize.proofs.Hanging.{Clean, Hanging, start-hanging, round-hanging}
 use Rattle.canonize.proofs.OnStrings.{peel-more, peel-stop, Says, says-code, start-says, round-says}
 use Rattle.canonize.proofs.Choose.{more-bonds}

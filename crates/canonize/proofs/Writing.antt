@@ -10,7 +10,7 @@ use lib.ListN.{length, getD, take, drop, set, length-append, length-drop, length
 use lib.Seq.{length-take-le, take-length, append-snoc, take-append-seam, take-append-le, set-split, getD-take, getD-drop, take-take, drop-drop, take-add, take-at, drop-at, paste, paste-zero, paste-suc, length-paste}
 use Rattle.molecule.specs.Lists.{Bytes}
 use Rattle.canonize.specs.Strings.{wrap}
-use Rattle.canonize.specs.Inner.Places.{written, Wrote, Apart}
+use Rattle.canonize.specs.Inner.Places.{written, Wrote, NoneShared}
 
 -- ---- one string
 
@@ -100,7 +100,7 @@ front-next out x j now h g e =
 pub part-length : (out : Bytes) (from n : ℕ) → from + n ≤ length out → length (take n (drop from out)) ≡ n
 part-length out from n h = length-take-le n (drop from out) (omega (arith, length-drop from out))
 
-module _ (out : Bytes) (from n to : ℕ) (apart : Apart from n to n) (fits : from + n ≤ length out) (room : to + n ≤ length out) where
+module _ (out : Bytes) (from n to : ℕ) (apart : NoneShared from n to n) (fits : from + n ≤ length out) (room : to + n ≤ length out) where
   part : Bytes
   part = take n (drop from out)
 
@@ -172,7 +172,7 @@ wrote-read-then {out} {k} {x} {next} {now} {y} v w h =
 
 -- ---- bytes from another place, wrapped: a 0 is put, they are copied, and 255 is put
 
-module _ (out : Bytes) (from n place : ℕ) (apart : Apart from n place (n + 2)) (fits : from + n ≤ length out) (room : place + (n + 2) ≤ length out) where
+module _ (out : Bytes) (from n place : ℕ) (apart : NoneShared from n place (n + 2)) (fits : from + n ≤ length out) (room : place + (n + 2) ≤ length out) where
   -- the 0 is not among them
   opened-part : take n (drop from (set out place 0)) ≡ take n (drop from out)
   opened-part =
@@ -196,12 +196,12 @@ module _ (out : Bytes) (from n place : ℕ) (apart : Apart from n place (n + 2))
 -- ---- bytes from two places before, each wrapped
 
 -- the n bytes at a and the m at b stand before the place, where there is room for them wrapped
-pub record Pair (out : Bytes) (a n b m place : ℕ) : Type 0 where
+pub record TwoStrings (out : Bytes) (a n b m place : ℕ) : Type 0 where
   pub first : a + n ≤ place
   pub second : b + m ≤ place
   pub room : place + ((n + 2) + (m + 2)) ≤ length out
 
-module _ {out : Bytes} {a n b m place : ℕ} (p : Pair out a n b m place) {next : ℕ} {one : Bytes}
+module _ {out : Bytes} {a n b m place : ℕ} (p : TwoStrings out a n b m place) {next : ℕ} {one : Bytes}
     (w : Wrote out place (wrap (take n (drop a out))) next one) where
   wrap-part : (from k : ℕ) → from + k ≤ length out → length (wrap (take k (drop from out))) ≡ k + 2
   unfolding wrap

@@ -10,7 +10,7 @@ ghost use Rattle.molecule.specs.Connected.{Own};
 ghost use Rattle.molecule.specs.Tree.{Formed};
 ghost use Rattle.canonize.specs.Strings.{collapse};
 ghost use Rattle.canonize.specs.Inner.Slate.{slot, Slate};
-ghost use Rattle.canonize.specs.Inner.Places.{Wrote, Room, Placed, LabelAt};
+ghost use Rattle.canonize.specs.Inner.Places.{Wrote, FreeSlot, SlotIs, LabelAt};
 ghost use Rattle.canonize.specs.Inner.Words.{isTip, outer, far, received, stringsAt, handed, centres, Fits, Round};
 use crate::compare;
 use crate::strings;
@@ -39,7 +39,7 @@ fn put_atom(
     place: usize,
 ) -> usize
     requires { ⌜ Formed (now bytes) × (now at ≡ bondsAtWords (now bytes)) × (v < atoms (now bytes)) × Slate (now slate)
-        × Room (received (now bytes) s left v) place (length (collapse (stringsAt (now bytes) s left (slot (now slate)) v))) ⌝ }
+        × FreeSlot (received (now bytes) s left v) place (length (collapse (stringsAt (now bytes) s left (slot (now slate)) v))) ⌝ }
     ensures { λ r. ⌜ Wrote (now (slate .entry)) place (collapse (stringsAt (now (bytes .entry)) s left (slot (now (slate .entry))) v)) r (now (slate .exit)) ⌝ }
 {
     let set = bitset::difference(bitset::common(at[v], s), left);
@@ -50,7 +50,7 @@ fn put_atom(
 fn hand_over(bytes: &[u8], at: &[u64; 65], s: u64, left: u64, i: u32, v: usize, slate: &mut [u8])
     requires { ⌜ Formed (now bytes) × (now at ≡ bondsAtWords (now bytes)) × (i < bonds (now bytes)) × (v < atoms (now bytes)) × Slate (now slate)
         × (bit left i ≡ 1) × (length (handed (now bytes) s left (slot (now slate)) i v) ≤ 389) ⌝ }
-    ensures { λ _. ⌜ Placed (now (slate .entry)) i (handed (now (bytes .entry)) s left (slot (now (slate .entry))) i v) (now (slate .exit)) ⌝ }
+    ensures { λ _. ⌜ SlotIs (now (slate .entry)) i (handed (now (bytes .entry)) s left (slot (now (slate .entry))) i v) (now (slate .exit)) ⌝ }
 {
     let k = i as usize;
     let start = strings::start(k);

@@ -6,7 +6,7 @@ ghost use lib.ListN.{length, take, drop};
 ghost use Rattle.bitset.specs.Bits.{members};
 ghost use Rattle.canonize.specs.Strings.{lexLe, wrap, sort, join, collapse};
 ghost use Rattle.canonize.specs.Inner.Slate.{slotLength, slot, Slate};
-ghost use Rattle.canonize.specs.Inner.Places.{Wrote, Apart, Room, Placed, Least, After};
+ghost use Rattle.canonize.specs.Inner.Places.{Wrote, NoneShared, FreeSlot, SlotIs, Least, After};
 use crate::compare;
 
 // A byte as a number.
@@ -37,7 +37,7 @@ pub fn slot_length(slate: &[u8], i: usize) -> usize
 // The n bytes that stand in slot i become its string.
 pub fn set_length(slate: &mut [u8], i: usize, n: usize)
     requires { ⌜ Slate (now slate) × (i < 66) × (n ≤ 389) ⌝ }
-    ensures { λ _. ⌜ Placed (now (slate .entry)) i (take n (drop (391 * i + 2) (now (slate .entry)))) (now (slate .exit)) ⌝ }
+    ensures { λ _. ⌜ SlotIs (now (slate .entry)) i (take n (drop (391 * i + 2) (now (slate .entry)))) (now (slate .exit)) ⌝ }
 {
     slate[391 * i] = (n % 256) as u8;
     slate[391 * i + 1] = (n / 256) as u8;
@@ -58,7 +58,7 @@ pub fn put(out: &mut [u8], x: &[u8])
 
 // Copies n bytes to a place, and answers the place after them.
 fn copy(slate: &mut [u8], from: usize, n: usize, to: usize) -> usize
-    requires { ⌜ Apart from n to n × (from + n ≤ length (now slate)) × (to + n ≤ length (now slate)) ⌝ }
+    requires { ⌜ NoneShared from n to n × (from + n ≤ length (now slate)) × (to + n ≤ length (now slate)) ⌝ }
     ensures { λ r. ⌜ Wrote (now (slate .entry)) to (take n (drop from (now (slate .entry)))) r (now (slate .exit)) ⌝ }
 {
     let mut j = 0;
@@ -71,7 +71,7 @@ fn copy(slate: &mut [u8], from: usize, n: usize, to: usize) -> usize
 
 // Puts n bytes, wrapped.
 pub fn put_wrapped(slate: &mut [u8], from: usize, n: usize, place: usize) -> usize
-    requires { ⌜ Apart from n place (n + 2) × (from + n ≤ length (now slate)) × (place + (n + 2) ≤ length (now slate)) ⌝ }
+    requires { ⌜ NoneShared from n place (n + 2) × (from + n ≤ length (now slate)) × (place + (n + 2) ≤ length (now slate)) ⌝ }
     ensures { λ r. ⌜ Wrote (now (slate .entry)) place (wrap (take n (drop from (now (slate .entry))))) r (now (slate .exit)) ⌝ }
 {
     slate[place] = 0;
@@ -82,7 +82,7 @@ pub fn put_wrapped(slate: &mut [u8], from: usize, n: usize, place: usize) -> usi
 
 // Puts the string of slot i, wrapped.
 fn put_slot(slate: &mut [u8], i: u32, place: usize) -> usize
-    requires { ⌜ Slate (now slate) × (i < 64) × Apart (391 * i) 391 place (length (wrap (slot (now slate) i)))
+    requires { ⌜ Slate (now slate) × (i < 64) × NoneShared (391 * i) 391 place (length (wrap (slot (now slate) i)))
         × (place + length (wrap (slot (now slate) i)) ≤ length (now slate)) ⌝ }
     ensures { λ r. ⌜ Wrote (now (slate .entry)) place (wrap (slot (now (slate .entry)) i)) r (now (slate .exit)) ⌝ }
 {
@@ -123,7 +123,7 @@ fn least(slate: &[u8], set: u64) -> u32
 
 // Puts the strings of the slots of the set, sorted, each wrapped.
 fn put_sorted(slate: &mut [u8], set: u64, place: usize) -> usize
-    requires { ⌜ Slate (now slate) × Room set place (length (join (sort (map (slot (now slate)) (members set))))) ⌝ }
+    requires { ⌜ Slate (now slate) × FreeSlot set place (length (join (sort (map (slot (now slate)) (members set))))) ⌝ }
     ensures { λ r. ⌜ Wrote (now (slate .entry)) place (join (sort (map (slot (now (slate .entry))) (members set)))) r (now (slate .exit)) ⌝ }
 {
     let mut next = place;
@@ -179,7 +179,7 @@ fn put_byte(slate: &mut [u8], e: u8, place: usize) -> usize
 
 // Puts the collapsed strings of an atom: the one byte e, and the strings of the slots of the set.
 pub fn put_collapsed(slate: &mut [u8], set: u64, e: u8, place: usize) -> usize
-    requires { ⌜ Slate (now slate) × Room set place (length (collapse ((e ∷ []) ∷ map (slot (now slate)) (members set)))) ⌝ }
+    requires { ⌜ Slate (now slate) × FreeSlot set place (length (collapse ((e ∷ []) ∷ map (slot (now slate)) (members set)))) ⌝ }
     ensures { λ r. ⌜ Wrote (now (slate .entry)) place (collapse ((e ∷ []) ∷ map (slot (now (slate .entry))) (members set))) r (now (slate .exit)) ⌝ }
 {
     let after = after_byte(slate, set, e);

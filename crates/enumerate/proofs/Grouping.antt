@@ -19,7 +19,7 @@ use Rattle.canonize.specs.Label.{label}
 use Rattle.canonize.proofs.Laws.{same-iff, le-refl}
 use Rattle.matches.specs.Table.{Group, place, groups}
 use Rattle.enumerate.specs.Inner.Bucketed.{Bucketed}
-use Rattle.enumerate.specs.Inner.Grouped.{groupAt, Chain, ends, then, Keyed, Grouped, Groupable, Around, Outside, keyAt, Firsts, Position, GroupOpened, joined, Hints, Hinted, Leads, Moved, Placing, Placed}
+use Rattle.enumerate.specs.Inner.Grouped.{groupAt, Threaded, ends, then, Keyed, Grouped, Groupable, Around, Outside, keyAt, Firsts, Position, GroupOpened, joined, Hints, Hinted, HintLeads, Moved, Placing, GroupPlaced}
 use Rattle.enumerate.proofs.Chains.{bucketed-same}
 use Rattle.enumerate.proofs.Placing.{position-of, putAt, put-length, put-before, put-this, put-after, Side, side, keysOf, grownGroup, newGroup, place-join, place-open, join-this, join-other, keyed-join, keyed-open}
 
@@ -47,40 +47,40 @@ groupable-around o w = record { found = bucketed-around o (w .found); wide = ome
 -- ---- chains
 
 module _ {parts : List ℕ} {p : ℕ} {l : List ℕ} {n : ℕ} where
-  pub chain-below : {i e : ℕ} {sets : List ℕ} → Chain parts p l n i sets e → e < n
+  pub chain-below : {i e : ℕ} {sets : List ℕ} → Threaded parts p l n i sets e → e < n
   chain-below (ends h q) = h
   chain-below (then h q c) = chain-below c
 
-  pub chain-rise : {i e : ℕ} {sets : List ℕ} → Chain parts p l n i sets e → i ≤ e
+  pub chain-rise : {i e : ℕ} {sets : List ℕ} → Threaded parts p l n i sets e → i ≤ e
   chain-rise (ends h q) = omega arith
   chain-rise (then h q c) = omega (arith, h, chain-rise c)
 
-  pub chain-first : {i e : ℕ} {sets : List ℕ} → Chain parts p l n i sets e → List·Memᴰ (getD l i 0) sets
+  pub chain-first : {i e : ℕ} {sets : List ℕ} → Threaded parts p l n i sets e → List·Memᴰ (getD l i 0) sets
   chain-first (ends h q) = List·Memᴰ·head refl
   chain-first (then h q c) = List·Memᴰ·head refl
 
-  pub chain-last : {i e : ℕ} {sets : List ℕ} → Chain parts p l n i sets e → List·Memᴰ (getD l e 0) sets
+  pub chain-last : {i e : ℕ} {sets : List ℕ} → Threaded parts p l n i sets e → List·Memᴰ (getD l e 0) sets
   chain-last (ends h q) = List·Memᴰ·head refl
   chain-last (then h q c) = List·Memᴰ·tail (chain-last c)
 
   -- the words at its members are as they were
-  chain-same : {i e : ℕ} {sets : List ℕ} (now : List ℕ) (m : ℕ) → n ≤ m → Chain parts p l n i sets e → ((j : ℕ) → j < n → List·Memᴰ (getD l j 0) sets → getD now (5 * p + j) 0 ≡ getD parts (5 * p + j) 0) → Chain now p l m i sets e
+  chain-same : {i e : ℕ} {sets : List ℕ} (now : List ℕ) (m : ℕ) → n ≤ m → Threaded parts p l n i sets e → ((j : ℕ) → j < n → List·Memᴰ (getD l j 0) sets → getD now (5 * p + j) 0 ≡ getD parts (5 * p + j) 0) → Threaded now p l m i sets e
   chain-same now m h (ends {i = i} g q) s = ends {i = i} (omega arith) (s i g (List·Memᴰ·head refl) ∙ q)
   chain-same now m h (then {i = i} g q c) s = then {i = i} g (s i (omega (arith, g, chain-rise c, chain-below c)) (List·Memᴰ·head refl) ∙ q) (chain-same now m h c (λ j b u. s j b (List·Memᴰ·tail u)))
 
   -- candidate n is put at its end
-  chain-grow : {i e : ℕ} {sets : List ℕ} (now : List ℕ) → Chain parts p l n i sets e → ((j : ℕ) → j < n → j ≢ e → getD now (5 * p + j) 0 ≡ getD parts (5 * p + j) 0) → getD now (5 * p + e) 0 ≡ suc n → getD now (5 * p + n) 0 ≡ 0 → Chain now p l (n + 1) i (sets ++ (getD l n 0 ∷ [])) n
+  chain-grow : {i e : ℕ} {sets : List ℕ} (now : List ℕ) → Threaded parts p l n i sets e → ((j : ℕ) → j < n → j ≢ e → getD now (5 * p + j) 0 ≡ getD parts (5 * p + j) 0) → getD now (5 * p + e) 0 ≡ suc n → getD now (5 * p + n) 0 ≡ 0 → Threaded now p l (n + 1) i (sets ++ (getD l n 0 ∷ [])) n
   chain-grow now (ends {i = i} g q) s a b = then {i = i} g a (ends {i = n} (omega arith) b)
   chain-grow now (then {i = i} g q c) s a b = then {i = i} g (s i (omega (arith, g, chain-rise c, chain-below c)) (λ d. omega (arith, d, g, chain-rise c)) ∙ q) (chain-grow now c s a b)
 
   -- the first member, and what comes after it
-  pub chain-split : {i e : ℕ} {sets : List ℕ} → Chain parts p l n i sets e
+  pub chain-split : {i e : ℕ} {sets : List ℕ} → Threaded parts p l n i sets e
       → (rest : List ℕ) × (sets ≡ getD l i 0 ∷ rest) × (((getD parts (5 * p + i) 0 ≡ 0) × (rest ≡ []))
-      ⊎ ((j : ℕ) × (i < j) × (getD parts (5 * p + i) 0 ≡ suc j) × Chain parts p l n j rest e))
+      ⊎ ((j : ℕ) × (i < j) × (getD parts (5 * p + i) 0 ≡ suc j) × Threaded parts p l n j rest e))
   chain-split (ends h q) = ([], refl, inl (q, refl))
   chain-split (then {j = j} {sets = rest} h q c) = (rest, refl, inr (j, h, q, c))
 
-  chain-cast : {i i′ e e′ : ℕ} {sets sets′ : List ℕ} → i′ ≡ i → sets′ ≡ sets → e′ ≡ e → Chain parts p l n i sets e → Chain parts p l n i′ sets′ e′
+  chain-cast : {i i′ e e′ : ℕ} {sets sets′ : List ℕ} → i′ ≡ i → sets′ ≡ sets → e′ ≡ e → Threaded parts p l n i sets e → Threaded parts p l n i′ sets′ e′
   chain-cast a b c w = rw (a, b, c) w
 
 -- ---- a group is joined
@@ -222,7 +222,7 @@ module _ (r : Bytes) {parts : List ℕ} {p g m j : ℕ} (w : Hints parts p g m) 
     connected = λ f e. let u = w .first j f here e in rw (u .2) (v .connected (u .0) (u .1));
   }
 
-  pub leads-group : (x : Bytes) → Leads r parts p j x → (k : ℕ) × (k < g) × (getD parts (9 * p + j) 0 ≡ suc (getD parts (4 * p + k) 0))
+  pub leads-group : (x : Bytes) → HintLeads r parts p j x → (k : ℕ) × (k < g) × (getD parts (9 * p + j) 0 ≡ suc (getD parts (4 * p + k) 0))
       × (same x (keyAt r parts p k) ≡ true)
   unfolding keyAt
   leads-group x d =
@@ -265,13 +265,13 @@ module _ (parts : List ℕ) (p j y : ℕ) where
           let u = w .first a f h (sym (getD-set-other parts (9 * p + j) (9 * p + a) y 0 (λ z. q (omega (arith, z)))) ∙ e) in
           (u .0, u .1, u .2 ∙ sym (first-at (u .0) (u .1)))
 
-  pub placed-noted : {r : Bytes} {l : List ℕ} {i : ℕ} {gs : List Group} {g : ℕ} {x : Bytes} → i < p → Placed r parts p l i gs g x → Placed r noted p l i gs g x
+  pub placed-noted : {r : Bytes} {l : List ℕ} {i : ℕ} {gs : List Group} {g : ℕ} {x : Bytes} → i < p → GroupPlaced r parts p l i gs g x → GroupPlaced r noted p l i gs g x
   placed-noted {r} {l} {i} {gs} {g} {x} room w = record {
     grouped = record { few = w .grouped .few; keyed = w .grouped .keyed; chains = chain };
     count = w .count;
   }
     where
-      chain : (k : ℕ) → k < length (place gs (getD l i 0) x) → Chain noted p l (i + 1) (getD noted (4 * p + k) 0) (groupAt (place gs (getD l i 0) x) k .sets) (getD noted (6 * p + getD noted (4 * p + k) 0) 0)
+      chain : (k : ℕ) → k < length (place gs (getD l i 0) x) → Threaded noted p l (i + 1) (getD noted (4 * p + k) 0) (groupAt (place gs (getD l i 0) x) k .sets) (getD noted (6 * p + getD noted (4 * p + k) 0) 0)
       chain k h =
           let c = w .grouped .chains k h in
           let a : getD noted (4 * p + k) 0 ≡ getD parts (4 * p + k) 0 = noted-word (4 * p + k) (omega (arith, w .grouped .few)) in
@@ -295,7 +295,7 @@ module _ {r : Bytes} {parts : List ℕ} {p : ℕ} {l : List ℕ} {i : ℕ} {gs :
   abbrev f : ℕ → ℕ
   f k = getD parts (4 * p + k) 0
 
-  chain : (k : ℕ) → k < g → Chain parts p l i (f k) (groupAt gs k .sets) (getD parts (6 * p + f k) 0)
+  chain : (k : ℕ) → k < g → Threaded parts p l i (f k) (groupAt gs k .sets) (getD parts (6 * p + f k) 0)
   chain k h = w .grouped .chains k (omega (arith, w .count))
 
   pub placing-room : i < p
@@ -380,9 +380,9 @@ module _ {r : Bytes} {parts : List ℕ} {p : ℕ} {l : List ℕ} {i : ℕ} {gs :
       long : length more ≡ length gs
       long = length-set gs k (grownGroup (getD l i 0) x (groupAt gs k))
 
-      chains-of : (j : ℕ) → j < g → Dec (j ≡ k) → Chain now p l (i + 1) (getD now (4 * p + j) 0) (groupAt more j .sets) (getD now (6 * p + getD now (4 * p + j) 0) 0)
+      chains-of : (j : ℕ) → j < g → Dec (j ≡ k) → Threaded now p l (i + 1) (getD now (4 * p + j) 0) (groupAt more j .sets) (getD now (6 * p + getD now (4 * p + j) 0) 0)
       chains-of j b (yes q) =
-          let c : Chain now p l (i + 1) (f k) (groupAt gs k .sets ++ (getD l i 0 ∷ [])) i =
+          let c : Threaded now p l (i + 1) (f k) (groupAt gs k .sets ++ (getD l i 0 ∷ [])) i =
           chain-grow now (chain k h) (λ m d n. same-word (5 * p + m) (λ z. n (omega (arith, z))) (λ z. omega (arith, z, d)) (λ z. omega (arith, z, d, placing-room)))
           (join-link parts p (f k) i placing-wide (omega (arith, placing-first k h, placing-room)) placing-room (omega (arith, placing-last k h, placing-room)) (λ z. omega (arith, z, placing-last k h)))
           (join-end parts p (f k) i placing-wide (omega (arith, placing-first k h, placing-room)) placing-room (omega (arith, placing-last k h, placing-room))) in
@@ -391,7 +391,7 @@ module _ {r : Bytes} {parts : List ℕ} {p : ℕ} {l : List ℕ} {i : ℕ} {gs :
           let e : getD now (6 * p + getD now (4 * p + j) 0) 0 ≡ i = rw a (join-last parts p (f k) i placing-wide (omega (arith, placing-first k h, placing-room)) placing-room (omega (arith, placing-last k h, placing-room))) in
           chain-cast a s e c
       chains-of j b (no n) =
-          let c : Chain now p l (i + 1) (f j) (groupAt gs j .sets) (getD parts (6 * p + f j) 0) =
+          let c : Threaded now p l (i + 1) (f j) (groupAt gs j .sets) (getD parts (6 * p + f j) 0) =
           chain-same now (i + 1) (omega arith) (chain j b) (λ m d u. same-word (5 * p + m) (λ z. apart j k m (getD parts (6 * p + f k) 0) b h n u (chain-last (chain k h)) (omega (arith, z))) (λ z. omega (arith, z, d)) (λ z. omega (arith, z, d, placing-room))) in
           let a : getD now (4 * p + j) 0 ≡ f j = first-same j b in
           let s : groupAt more j .sets ≡ groupAt gs j .sets = ap (λ (z : Group). z .sets) (join-other r gs (w .grouped .keyed) (getD l i 0) x (w .its) k here (same-iff x (keysOf gs k) .0 equal) j n) in
@@ -399,7 +399,7 @@ module _ {r : Bytes} {parts : List ℕ} {p : ℕ} {l : List ℕ} {i : ℕ} {gs :
           rw a (same-word (6 * p + f j) (λ z. omega (arith, z, placing-last k h, placing-room)) (λ z. omega (arith, z, placing-room)) (λ z. apart j k (f j) (f k) b h n (chain-first (chain j b)) (chain-first (chain k h)) (omega (arith, z)))) in
           chain-cast a s e c
 
-      pub placed-join : Placed r now p l i gs g x
+      pub placed-join : GroupPlaced r now p l i gs g x
       placed-join = record {
         grouped = rw is (record {
           few = omega (arith, long, w .grouped .few);
@@ -424,12 +424,12 @@ module _ {r : Bytes} {parts : List ℕ} {p : ℕ} {l : List ℕ} {i : ℕ} {gs :
       put-count = put-length gs k (newGroup (getD l i 0) x)
 
       -- an old group, at its new place
-      old-chain : (j m : ℕ) → m < g → getD now (4 * p + j) 0 ≡ f m → groupAt put j ≡ groupAt gs m → Chain now p l (i + 1) (getD now (4 * p + j) 0) (groupAt put j .sets) (getD now (6 * p + getD now (4 * p + j) 0) 0)
+      old-chain : (j m : ℕ) → m < g → getD now (4 * p + j) 0 ≡ f m → groupAt put j ≡ groupAt gs m → Threaded now p l (i + 1) (getD now (4 * p + j) 0) (groupAt put j .sets) (getD now (6 * p + getD now (4 * p + j) 0) 0)
       old-chain j m b a s =
           let e : getD now (6 * p + getD now (4 * p + j) 0) 0 ≡ getD parts (6 * p + f m) 0 = rw a (o .lasts (f m) (placing-first m b)) in
           chain-cast a (ap (λ (z : Group). z .sets) s) e (chain-same now (i + 1) (omega arith) (chain m b) (λ d c u. o .nexts d c))
 
-      put-chains : (j : ℕ) → j ≤ g → Side k j → Chain now p l (i + 1) (getD now (4 * p + j) 0) (groupAt put j .sets) (getD now (6 * p + getD now (4 * p + j) 0) 0)
+      put-chains : (j : ℕ) → j ≤ g → Side k j → Threaded now p l (i + 1) (getD now (4 * p + j) 0) (groupAt put j .sets) (getD now (6 * p + getD now (4 * p + j) 0) 0)
       put-chains j b (inl h) = old-chain j j (omega (arith, pos .within)) (o .before j h) (put-before gs k (newGroup (getD l i 0) x) j h within)
       put-chains j b (inr (inl q)) =
           let a : getD now (4 * p + j) 0 ≡ i = rw q (o .first) in
@@ -439,7 +439,7 @@ module _ {r : Bytes} {parts : List ℕ} {p : ℕ} {l : List ℕ} {i : ℕ} {gs :
       put-chains j b (inr (inr (m, q, h))) =
           old-chain j m (omega arith) (rw q (o .after m h (omega arith))) (rw q (put-after gs k (newGroup (getD l i 0) x) m h within))
 
-      pub placed-open : Placed r now p l i gs (g + 1) x
+      pub placed-open : GroupPlaced r now p l i gs (g + 1) x
       placed-open = record {
         grouped = rw is-put (record {
           few = omega (arith, put-count, w .grouped .few);
@@ -451,7 +451,7 @@ module _ {r : Bytes} {parts : List ℕ} {p : ℕ} {l : List ℕ} {i : ℕ} {gs :
 
 -- what placing candidate i does to the table, whatever the candidates and groups are
 abbrev pub Places : Bytes → List ℕ → List ℕ → ℕ → ℕ → ℕ → ℕ → Bytes → Type 0
-Places r old now p i g n x = (l : List ℕ) (gs : List Group) → Placing r old p l i gs g x → Placed r now p l i gs n x
+Places r old now p i g n x = (l : List ℕ) (gs : List Group) → Placing r old p l i gs g x → GroupPlaced r now p l i gs n x
 
 module _ {r : Bytes} {parts : List ℕ} {p : ℕ} {l : List ℕ} {i : ℕ} {gs : List Group} {g : ℕ} {x : Bytes} (w : Placing r parts p l i gs g x) where
   -- candidate i joins group k
@@ -474,7 +474,7 @@ module _ {r : Bytes} {parts : List ℕ} {p : ℕ} {l : List ℕ} {i : ℕ} {gs :
 
   module _ {m : ℕ} (hints : Hints parts p g m) where
     -- hint j leads to its group, which it joins
-    pub hint-places : (j : ℕ) → j < m → Leads r parts p j x → (now : List ℕ) → now ≡ joined parts p (getD parts (9 * p + j) 0 - 1) i
+    pub hint-places : (j : ℕ) → j < m → HintLeads r parts p j x → (now : List ℕ) → now ≡ joined parts p (getD parts (9 * p + j) 0 - 1) i
         → Around parts now p × Hints now p g m × Places r parts now p i g g x
     hint-places j here d now e =
         let k = leads-group r hints here x d in
@@ -538,7 +538,7 @@ module _ {r : Bytes} {l : List ℕ} {p : ℕ} {now : List ℕ} where
       its = e ∙ ap (label r) (w .ready .found .listed .sets i h);
     }
 
-    pub grouping-next : i < length l → (x : Bytes) → x ≡ label r (getD now (p + i) 0) → (next : List ℕ) (m : ℕ) → Around now next p → Placed r next p l i (w .list) m x → Grouping r l next p (i + 1) m
+    pub grouping-next : i < length l → (x : Bytes) → x ≡ label r (getD now (p + i) 0) → (next : List ℕ) (m : ℕ) → Around now next p → GroupPlaced r next p l i (w .list) m x → Grouping r l next p (i + 1) m
     grouping-next h x e next m o q =
         let z : x ≡ label r (getD l i 0) = e ∙ ap (label r) (w .ready .found .listed .sets i h) in
         record {

@@ -10,7 +10,8 @@ ghost use Rattle.molecule.specs.Touch.{bondsAtWords};
 ghost use Rattle.molecule.specs.Check.{check, accepted};
 ghost use Rattle.canonize.specs.Inner.Slate.{Slate, kept, Keeps};
 ghost use Rattle.matches.specs.Table.{Group, groups};
-ghost use Rattle.enumerate.specs.Inner.Grouped.{Grouped, Groupable, Around, Outside, keyAt, Firsts, Position, GroupOpened, joined, Hints, Hinted, Leads, Moved, Placing, Placed};
+ghost use Rattle.enumerate.specs.Inner.Grouped.{Grouped, Groupable, Around, Outside, keyAt, Firsts, Position, GroupOpened, joined};
+ghost use Rattle.enumerate.specs.Inner.Grouped.{Hints, Hinted, HintLeads, Moved, Placing, GroupPlaced};
 
 // The first of the g groups whose label does not come before the one that is kept, g where there is none.
 fn position(
@@ -80,7 +81,7 @@ fn place_by_order(
         × ((l : List ℕ) × (gs : List Group) × Placing (now bytes) (now parts) p l i gs g (kept (now slate))) ⌝ }
     ensures placed { λ r. ⌜ Outside (now (parts .entry)) (now (parts .exit)) p × Moved (now (parts .entry)) (now (parts .exit)) p g r i
         × ((l : List ℕ) (gs : List Group) → Placing (now (bytes .entry)) (now (parts .entry)) p l i gs g (kept (now (slate .entry)))
-        → Placed (now (bytes .entry)) (now (parts .exit)) p l i gs r (kept (now (slate .entry)))) ⌝ }
+        → GroupPlaced (now (bytes .entry)) (now (parts .exit)) p l i gs r (kept (now (slate .entry)))) ⌝ }
     ensures serves { λ r. ⌜ Slate (now (slate .exit)) ⌝ }
 {
     let k = position(bytes, at, parts, p, g, slate);
@@ -100,7 +101,7 @@ fn place_by_order(
 // Whether hint j leads to a candidate with the label that is kept.
 fn leads(bytes: &[u8], at: &[u64; 65], parts: &[u64], p: usize, j: usize, slate: &mut [u8]) -> bool
     requires { ⌜ (check (now bytes) ≡ accepted) × (now at ≡ bondsAtWords (now bytes)) × Hinted (now bytes) (now parts) p j × Slate (now slate) ⌝ }
-    ensures leads { λ r. ⌜ (r ≡ true → Leads (now (bytes .entry)) (now (parts .entry)) p j (kept (now (slate .entry)))) ⌝ }
+    ensures leads { λ r. ⌜ (r ≡ true → HintLeads (now (bytes .entry)) (now (parts .entry)) p j (kept (now (slate .entry)))) ⌝ }
     ensures keeps { λ r. ⌜ Keeps (now (slate .exit)) (kept (now (slate .entry))) ⌝ }
 {
     let hint = parts[9 * p + j] as usize;
@@ -127,7 +128,7 @@ fn place(
         × (0 < m) × (m ≤ 3 * p) × Hints (now parts) p g m ⌝ }
     ensures placed { λ r. ⌜ Around (now (parts .entry)) (now (parts .exit)) p × Hints (now (parts .exit)) p r m
         × ((l : List ℕ) (gs : List Group) → Placing (now (bytes .entry)) (now (parts .entry)) p l i gs g (kept (now (slate .entry)))
-        → Placed (now (bytes .entry)) (now (parts .exit)) p l i gs r (kept (now (slate .entry)))) ⌝ }
+        → GroupPlaced (now (bytes .entry)) (now (parts .exit)) p l i gs r (kept (now (slate .entry)))) ⌝ }
     ensures serves { λ r. ⌜ Slate (now (slate .exit)) ⌝ }
 {
     let j = canonize::slate::spread(slate, m);

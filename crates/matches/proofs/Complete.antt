@@ -184,7 +184,7 @@ module _ (r : Bytes) where
     -- ---- M3
 
     -- a match of size 2, its fragments inside h and k, with b in the first
-    record Cover (h k b : ℕ) : Type 0 where
+    record SmallMatch (h k b : ℕ) : Type 0 where
       x : ℕ
       y : ℕ
       inside : Sub x h
@@ -193,7 +193,7 @@ module _ (r : Bytes) where
       holds : bit x b ≡ 1
       matched : IsMatch (pairs r) x y
 
-    cover : (h k b : ℕ) → Twins r h k → bit h b ≡ 1 → Cover h k b
+    cover : (h k b : ℕ) → Twins r h k → bit h b ≡ 1 → SmallMatch h k b
     cover h k b w hb =
         let n = neighbour r h b (w .one-own) (w .one) (w .big) hb in
         let c : ℕ = n .0 in

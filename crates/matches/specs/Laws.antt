@@ -30,7 +30,8 @@ pub record Covers (ms : List Pair) (i b j : ℕ) : Type 0 where
   pub within : j < length ms
   pub later : i ≤ j
   pub two : sizeOf ms j ≡ 2
-  pub inside : (Sub (pair ms j .h1) (pair ms i .h1) × Sub (pair ms j .h2) (pair ms i .h2)) ⊎ (Sub (pair ms j .h1) (pair ms i .h2) × Sub (pair ms j .h2) (pair ms i .h1))
+  pub inside : (Sub (pair ms j .h1) (pair ms i .h1) × Sub (pair ms j .h2) (pair ms i .h2))
+      ⊎ (Sub (pair ms j .h1) (pair ms i .h2) × Sub (pair ms j .h2) (pair ms i .h1))
   pub holds : (bit (pair ms j .h1) b ≡ 1) ⊎ (bit (pair ms j .h2) b ≡ 1)
 
 -- all that a search asks of its matches

@@ -21,7 +21,8 @@ pub record Match : Type 0 where
   pub larger : ℕ
   pub smaller : ℕ
 
--- the nodes by number; the matches; and for each size k, from 0 on, what row 9 compares with P: the candidates of size k or the nodes of sizes 1 to k, whichever are more
+-- the nodes by number; the matches; and for each size k, from 0 on, what row 9 compares with P:
+-- the candidates of size k or the nodes of sizes 1 to k, whichever are more
 pub record Table : Type 0 where
   pub nodes : List ℕ
   pub matches : List Match

@@ -9,7 +9,6 @@ use native.Mathlib.Nat.{lt-of-not-le}
 use native.Mathlib.Decide.{ℕ-discrete}
 use lib.Bits.{bitAnd, bitOr, and-self, and-le-r}
 use lib.Dec.{eqb}
-use lib.ListN.{length}
 use Rattle.bitset.specs.Bits.{bit, Sub, diff, size, members, low, unions}
 use Rattle.bitset.proofs.Laws.{bit-le, bit-and, bit-diff, bit-one, sub-or, sub-trans, sub-anti, or-cases, union-one, union-of, size-same, size-mono, size-zero, size-diff, size-minus, size-one, one-sub, low-bit}
 use Rattle.bitset.proofs.Members.{diff-sub, in-or-out, sub-of, sub-in, or-right-in, and-in, diff-in, not-empty}
@@ -194,9 +193,6 @@ module _ (near : ℕ → ℕ) where
           or-step : Dec (s ≡ 0) → (size (rest s) ≤ f → rest s < 2 ^ 64 → P (rest s) (parts near (rest s))) → P s (parts near s)
           or-step (yes e) ih = rw (e, parts-none) base
           or-step (no n) ih = rw (parts-step s n w) (turn s n w (ih (omega (arith, rest-less s n w)) (rest-word s w)))
-
-  pub parts-length : (s : ℕ) → s < 2 ^ 64 → length (parts near s) ≤ size s
-  parts-length = parts-by (λ s l. length l ≤ size s) (omega arith) (λ s n w ih. omega (arith, rest-less s n w))
 
 -- the parts depend on near at the bonds of s alone
 lead-same : (near far : ℕ → ℕ) (s : ℕ) → s ≢ 0 → s < 2 ^ 64 → ((x : ℕ) → bit s x ≡ 1 → near x ≡ far x) → lead near s ≡ lead far s

@@ -12,3 +12,4 @@ pub mod Accepted
 pub mod RowLaws
 pub mod Reached
 pub mod Trees
+pub mod Whole

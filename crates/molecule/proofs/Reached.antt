@@ -18,7 +18,7 @@ use Rattle.molecule.specs.Touch.{around, grow, reach, bondsAt, touching}
 use Rattle.molecule.specs.Check.{across, walk, reached}
 use Rattle.molecule.specs.Tree.{Formed, Joins, Walk, stay, along}
 use Rattle.molecule.proofs.Growing.{more, around-has, around-in, reach-has, reach-closed, reach-least}
-use Rattle.molecule.proofs.Touching.{Share, at-in, at-has, touch-in, touch-has}
+use Rattle.molecule.proofs.Touching.{EndOf, ends-share, at-in, at-has, touch-in, touch-has}
 
 -- b alone where a is in s
 abbrev side : ℕ → ℕ → ℕ → ℕ
@@ -41,19 +41,9 @@ module _ (r : Bytes) where
   joins-sym i u v (inl e) = inr e
   joins-sym i u v (inr e) = inl e
 
-  -- v is an end of bond i
-  abbrev End : ℕ → ℕ → Type 0
-  End i v = (endA r i ≡ v) ⊎ (endB r i ≡ v)
-
-  joins-end : (i u v : ℕ) → Joins r i u v → End i u
+  pub joins-end : (i u v : ℕ) → Joins r i u v → EndOf r i u
   joins-end i u v (inl e) = inl (e .0)
   joins-end i u v (inr e) = inr (e .1)
-
-  ends-share : (i j v : ℕ) → End i v → End j v → Share r i j
-  ends-share i j v (inl e) (inl f) = inl (inl (f ∙ sym e))
-  ends-share i j v (inl e) (inr f) = inl (inr (f ∙ sym e))
-  ends-share i j v (inr e) (inl f) = inr (inl (f ∙ sym e))
-  ends-share i j v (inr e) (inr f) = inr (inr (f ∙ sym e))
 
   -- no bond of s joins an atom of k and one outside it
   abbrev pub Shut : ℕ → ℕ → Type 0
@@ -146,30 +136,30 @@ module _ (r : Bytes) where
   abbrev ends : ℕ
   ends = bitOr (2 ^ 0) (unions pair (members fromZero))
 
-  pair-in : (i v : ℕ) → bit (pair i) v ≡ 1 → End i v
+  pair-in : (i v : ℕ) → bit (pair i) v ≡ 1 → EndOf r i v
   pair-in i v h = ⊎-elim (λ e. inl (sym (one-is (endA r i) v e))) (λ e. inr (sym (one-is (endB r i) v e))) (or-cases (2 ^ endA r i) (2 ^ endB r i) v h)
 
-  pair-has : (i v : ℕ) → End i v → bit (pair i) v ≡ 1
+  pair-has : (i v : ℕ) → EndOf r i v → bit (pair i) v ≡ 1
   pair-has i v (inl e) = subst (λ (z : ℕ). bit (pair i) z ≡ 1) e (or-left-in (2 ^ endA r i) (2 ^ endB r i) (endA r i) (bit-one (endA r i)))
   pair-has i v (inr e) = subst (λ (z : ℕ). bit (pair i) z ≡ 1) e (or-right-in (2 ^ endA r i) (2 ^ endB r i) (endB r i) (bit-one (endB r i)))
 
-  ends-has : (i v : ℕ) → bit fromZero i ≡ 1 → End i v → bit ends v ≡ 1
+  ends-has : (i v : ℕ) → bit fromZero i ≡ 1 → EndOf r i v → bit ends v ≡ 1
   ends-has i v g e = or-right-in (2 ^ 0) (unions pair (members fromZero)) v (union-one pair fromZero i v g (pair-has i v e))
 
-  ends-in : (v : ℕ) → bit ends v ≡ 1 → (v ≡ 0) ⊎ ((i : ℕ) × (bit fromZero i ≡ 1) × End i v)
+  ends-in : (v : ℕ) → bit ends v ≡ 1 → (v ≡ 0) ⊎ ((i : ℕ) × (bit fromZero i ≡ 1) × EndOf r i v)
   ends-in v h = ⊎-elim (λ e. inl (one-is 0 v e)) (λ e. let w = union-of pair fromZero v e in inr (w .0, w .1, pair-in (w .0) v (w .2))) (or-cases (2 ^ 0) (unions pair (members fromZero)) v h)
 
   -- a bond with such an end is in fromZero
-  in-from-zero : (i v : ℕ) → i < bonds r → End i v → bit ends v ≡ 1 → bit fromZero i ≡ 1
+  in-from-zero : (i v : ℕ) → i < bonds r → EndOf r i v → bit ends v ≡ 1 → bit fromZero i ≡ 1
   in-from-zero i v l e h = go (ends-in v h)
     where
-      go : (v ≡ 0) ⊎ ((j : ℕ) × (bit fromZero j ≡ 1) × End j v) → bit fromZero i ≡ 1
-      go (inl q) = sub-in (bondsAt r 0) fromZero (reach-has (touching r) (allBonds r) (bondsAt r 0)) i (at-has r 0 i l (subst (End i) q e))
+      go : (v ≡ 0) ⊎ ((j : ℕ) × (bit fromZero j ≡ 1) × EndOf r j v) → bit fromZero i ≡ 1
+      go (inl q) = sub-in (bondsAt r 0) fromZero (reach-has (touching r) (allBonds r) (bondsAt r 0)) i (at-has r 0 i l (subst (EndOf r i) q e))
       go (inr w) = next (ℕ-discrete i (w .0))
         where
           next : Dec (i ≡ w .0) → bit fromZero i ≡ 1
           next (yes q) = ap (bit fromZero) q ∙ w .1
-          next (no n) = reach-closed (touching r) (allBonds r) (bondsAt r 0) (w .0) i (w .1) (bit-first (bonds r) i l) (touch-has r (w .0) i n l (ends-share (w .0) i v (w .2) e))
+          next (no n) = reach-closed (touching r) (allBonds r) (bondsAt r 0) (w .0) i (w .1) (bit-first (bonds r) i l) (touch-has r (w .0) i n l (ends-share r (w .0) i v (w .2) e))
 
   -- the bonds whose first end is reached
   abbrev inside : ℕ
@@ -233,7 +223,7 @@ module _ (r : Bytes) where
 
     -- ---- an atom, apart from atom 0, is reached just where it has a bond of fromZero
 
-    inside-in : (i v : ℕ) → bit inside i ≡ 1 → End i v → bit (reached r) v ≡ 1
+    inside-in : (i v : ℕ) → bit inside i ≡ 1 → EndOf r i v → bit (reached r) v ≡ 1
     inside-in i v h e = go e
       where
         w : (i < bonds r) × (has (reached r) (endA r i) ≡ true)
@@ -242,14 +232,14 @@ module _ (r : Bytes) where
         a : bit (reached r) (endA r i) ≡ 1
         a = eqb-true (bit (reached r) (endA r i)) 1 (w .1)
 
-        go : End i v → bit (reached r) v ≡ 1
+        go : EndOf r i v → bit (reached r) v ≡ 1
         go (inl q) = ap (bit (reached r)) (sym q) ∙ a
         go (inr q) = reached-closed i (endA r i) v (bit-first (bonds r) i (w .0)) (inl (refl, q)) a
 
-    inside-has : (i v : ℕ) → i < bonds r → End i v → bit (reached r) v ≡ 1 → bit inside i ≡ 1
+    inside-has : (i v : ℕ) → i < bonds r → EndOf r i v → bit (reached r) v ≡ 1 → bit inside i ≡ 1
     inside-has i v l e h = setOf-has (λ j. has (reached r) (endA r j)) (bonds r) i l (eq-eqb (bit (reached r) (endA r i)) 1 (go e))
       where
-        go : End i v → bit (reached r) (endA r i) ≡ 1
+        go : EndOf r i v → bit (reached r) (endA r i) ≡ 1
         go (inl q) = ap (bit (reached r)) q ∙ h
         go (inr q) = reached-closed i v (endA r i) (bit-first (bonds r) i l) (inr (refl, q)) h
 
@@ -277,7 +267,7 @@ module _ (r : Bytes) where
         least = walk-least ends (or-left-in (2 ^ 0) (unions pair (members fromZero)) 0 (bit-one 0))
             (λ i u w b j m. ends-has i w (in-from-zero i u (all-in i b) (joins-end i u w j) m) (joins-end i w u (joins-sym i u w j)))
 
-        go : (v ≡ 0) ⊎ ((i : ℕ) × (bit fromZero i ≡ 1) × End i v) → bitAnd (bondsAt r v) fromZero ≢ 0
+        go : (v ≡ 0) ⊎ ((i : ℕ) × (bit fromZero i ≡ 1) × EndOf r i v) → bitAnd (bondsAt r v) fromZero ≢ 0
         go (inl q) = absurd (n q)
         go (inr w) =
             let l = setOf-in (λ j. has (reached r) (endA r j)) (bonds r) (w .0) (sub-in fromZero inside from-zero-inside (w .0) (w .1)) .0 in

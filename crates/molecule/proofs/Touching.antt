@@ -1,5 +1,5 @@
 -- Which bonds lie at an atom and which touch: two bonds of the record touch where they share an atom, each the other. Assumes nothing.
-use mathlib.Core.Path.{_≡_, sym, ap}
+use mathlib.Core.Path.{_≡_, refl, sym, ap, _∙_}
 use mathlib.Core.Logic.{_⊎_, inl, inr, _≢_, ⊎-elim}
 use Prim.Native.Nat.{ℕ, _^_, _<_}
 use native.Mathlib.Omega.{arith}
@@ -16,6 +16,10 @@ use Rattle.molecule.specs.Touch.{isEnd, bondsAt, touching}
 use Rattle.molecule.specs.Connected.{Touch}
 
 module _ (r : Bytes) where
+  -- atom v is an end of bond i
+  abbrev pub EndOf : ℕ → ℕ → Type 0
+  EndOf i v = (endA r i ≡ v) ⊎ (endB r i ≡ v)
+
   -- an end of i is one of j
   abbrev pub Share : ℕ → ℕ → Type 0
   Share i j = ((endA r j ≡ endA r i) ⊎ (endB r j ≡ endA r i)) ⊎ ((endA r j ≡ endB r i) ⊎ (endB r j ≡ endB r i))
@@ -26,13 +30,24 @@ module _ (r : Bytes) where
   share-sym i j (inr (inl e)) = inl (inr (sym e))
   share-sym i j (inr (inr e)) = inr (inr (sym e))
 
-  pub at-in : (v j : ℕ) → bit (bondsAt r v) j ≡ 1 → (j < bonds r) × ((endA r j ≡ v) ⊎ (endB r j ≡ v))
+  -- two bonds share an atom where one is an end of both
+  pub ends-share : (i j v : ℕ) → EndOf i v → EndOf j v → Share i j
+  ends-share i j v (inl e) (inl f) = inl (inl (f ∙ sym e))
+  ends-share i j v (inl e) (inr f) = inl (inr (f ∙ sym e))
+  ends-share i j v (inr e) (inl f) = inr (inl (f ∙ sym e))
+  ends-share i j v (inr e) (inr f) = inr (inr (f ∙ sym e))
+
+  pub share-ends : (i j : ℕ) → Share i j → (v : ℕ) × EndOf i v × EndOf j v
+  share-ends i j (inl e) = (endA r i, inl refl, e)
+  share-ends i j (inr e) = (endB r i, inr refl, e)
+
+  pub at-in : (v j : ℕ) → bit (bondsAt r v) j ≡ 1 → (j < bonds r) × EndOf j v
   unfolding bondsAt isEnd
   at-in v j h =
       let w = setOf-in (isEnd r v) (bonds r) j h in
       (w .0, ⊎-elim (λ e. inl (eqb-true (endA r j) v e)) (λ e. inr (eqb-true (endB r j) v e)) (or-true (eqb (endA r j) v) (eqb (endB r j) v) (w .1)))
 
-  pub at-has : (v j : ℕ) → j < bonds r → (endA r j ≡ v) ⊎ (endB r j ≡ v) → bit (bondsAt r v) j ≡ 1
+  pub at-has : (v j : ℕ) → j < bonds r → EndOf j v → bit (bondsAt r v) j ≡ 1
   unfolding bondsAt isEnd
   at-has v j l (inl e) = setOf-has (isEnd r v) (bonds r) j l (or-left (eqb (endA r j) v) (eqb (endB r j) v) (eq-eqb (endA r j) v e))
   at-has v j l (inr e) = setOf-has (isEnd r v) (bonds r) j l (or-right (eqb (endA r j) v) (eqb (endB r j) v) (eq-eqb (endB r j) v e))

@@ -70,7 +70,7 @@ module _ (r : Bytes) where
       go (no n) = inr (shut (omega arith))
 
   -- a set that no bond of s leads out of, with the atoms of a and at most one more for each bond of s
-  pub record Cover (s a : ℕ) : Type 0 where
+  pub record ShutSet (s a : ℕ) : Type 0 where
     pub set : ℕ
     pub holds : Sub a set
     pub shut : Shut r s set
@@ -83,13 +83,13 @@ module _ (r : Bytes) where
   both k i x y u v (inr p) hx hy (inl q) = ap (bit k) (sym (q .1) ∙ p .1) ∙ hx
   both k i x y u v (inr p) hx hy (inr q) = ap (bit k) (sym (q .0) ∙ p .0) ∙ hy
 
-  cover-in : (f s a : ℕ) → size s ≤ f → Cover s a
+  cover-in : (f s a : ℕ) → size s ≤ f → ShutSet s a
   cover-in zero s a l =
       let z : s ≡ 0 = size-zero s (omega arith) in
       record { set = a; holds = and-self a; shut = λ i u v m. absurd (omega (arith, bit-empty i, ap (λ (x : ℕ). bit x i) z)); few = omega arith }
   cover-in (suc f) s a l = go (leads-or-shut s a) (cover-in f)
     where
-      go : Leads s a ⊎ Shut r s a → ((t b : ℕ) → size t ≤ f → Cover t b) → Cover s a
+      go : Leads s a ⊎ Shut r s a → ((t b : ℕ) → size t ≤ f → ShutSet t b) → ShutSet s a
       go (inr h) ih = record { set = a; holds = and-self a; shut = h; few = omega arith }
       go (inl w) ih = record {
         set = c .set;
@@ -98,7 +98,7 @@ module _ (r : Bytes) where
         few = omega (arith, c .few, size-or a (2 ^ w .outer), size-one (w .outer), size-remove s (w .bond) (w .member));
       }
         where
-          c : Cover (diff s (2 ^ w .bond)) (bitOr a (2 ^ w .outer))
+          c : ShutSet (diff s (2 ^ w .bond)) (bitOr a (2 ^ w .outer))
           c = ih (diff s (2 ^ w .bond)) (bitOr a (2 ^ w .outer)) (omega (arith, size-remove s (w .bond) (w .member)))
 
           held : Sub a (c .set)
@@ -111,7 +111,7 @@ module _ (r : Bytes) where
               (subst (λ (i : ℕ). Joins r i u v) e q)
           next j u v m q h (no n) = c .shut j u v (diff-in s (2 ^ w .bond) j m (bit-other (w .bond) j n)) q h
 
-  pub cover : (s a : ℕ) → Cover s a
+  pub cover : (s a : ℕ) → ShutSet s a
   cover s a = cover-in (size s) s a (omega arith)
 
   -- ---- where all atoms are reached, no bond can be left out
@@ -126,7 +126,7 @@ module _ (r : Bytes) where
     pub splits : (i : ℕ) → i < bonds r → Walk r (diff (allBonds r) (2 ^ i)) (endA r i) (endB r i) → ⊥
     splits i l p = omega (arith, every (c .set) (sub-in (2 ^ 0) (c .set) (c .holds) 0 (bit-one 0)) shut, c .few, size-one 0, size-remove (allBonds r) i (bit-first (bonds r) i l), size-first (bonds r), k .sized .count)
       where
-        c : Cover (diff (allBonds r) (2 ^ i)) (2 ^ 0)
+        c : ShutSet (diff (allBonds r) (2 ^ i)) (2 ^ 0)
         c = cover (diff (allBonds r) (2 ^ i)) (2 ^ 0)
 
         -- the walk stands in for bond i

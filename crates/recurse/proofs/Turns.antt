@@ -29,14 +29,13 @@ use Rattle.search.specs.Inner.Claims.{Fine, heldOf}
 use Rattle.search.proofs.Parts.{some}
 use Rattle.search.proofs.Least.{ask-off}
 use Rattle.search.proofs.Ends.{root-fine}
-use Rattle.search.proofs.Fragments.{all-connected}
+use Rattle.molecule.proofs.Whole.{all-connected}
 use Rattle.state.specs.declared.State as code
 use Rattle.recurse.specs.declared.visit.Run as code-run
 use Rattle.recurse.specs.declared.visit.Outcome as code-outcome
 use Rattle.recurse.specs.declared.visit.Gate.{Gate}
 use Rattle.recurse.specs.declared.visit.Gate.the-variants.{Goes as Opens, Stops, Ends}
 use Rattle.memoize.specs.declared.Asked.{Asked}
-use Rattle.memoize.specs.declared.Asked.the-variants.{Goes, Stopped, Full}
 use Rattle.state.specs.Inner.Views.{stateOf}
 use Rattle.desk.specs.Inner.Cached.{Cached}
 use Rattle.memoize.specs.Inner.Stored.{Fragments, Stored, entryWith, MemoAnswers}
@@ -168,8 +167,8 @@ pub record Looping (r : Bytes) (setting : Setting) (room f : ℕ) (s : code.Stat
   pub same : whole ≡ wholeOf r setting room f s least m found memo
 
 -- an answer of the code as the definition's
-abbrev Answered : Bytes → ℕ → code-outcome.Outcome → List ℕ → Outcome → Type 0
-Answered r best g words o = (m : List Entry) × (o ≡ answers (g .answer) (take (g .length) (g .trail)) (runOf (g .run) m)) × (g .length ≤ 32) × (g .run .best ≤ best) × Stored r words (g .run .entries) m
+abbrev AnsweredAs : Bytes → ℕ → code-outcome.Outcome → List ℕ → Outcome → Type 0
+AnsweredAs r best g words o = (m : List Entry) × (o ≡ answers (g .answer) (take (g .length) (g .trail)) (runOf (g .run) m)) × (g .length ≤ 32) × (g .run .best ≤ best) × Stored r words (g .run .entries) m
 
 module _ (r : Bytes) (best : ℕ) (g : code-outcome.Outcome) (words : List ℕ) where
   -- an outcome on a row
@@ -178,7 +177,7 @@ module _ (r : Bytes) (best : ℕ) (g : code-outcome.Outcome) (words : List ℕ) 
   follows-halts (halts k q) h n = let a : k ≡ g .row = sym (h .1) in let b : q ≡ g .place = sym (h .2) in rw (a, b)
 
   -- an answer
-  follows-answers : (o : Outcome) → Follows r best g words o → g .row ≡ 0 → Answered r best g words o
+  follows-answers : (o : Outcome) → Follows r best g words o → g .row ≡ 0 → AnsweredAs r best g words o
   follows-answers (answers a t run) h e =
       let p : a ≡ g .answer = sym (h .1) in
       let q : t ≡ take (g .length) (g .trail) = sym (h .3) in
@@ -241,7 +240,7 @@ module _ (r : Bytes) (ok : check r ≡ accepted) (setting : Setting) (room f : �
   pub loop-answers : g .row ≡ 0 → (k : ℕ) → Next r (pairs r) (stateOf s .pieces) least (m + 1) k → Looping r setting room f s least k (betterOf found g) now whole
   loop-answers e k N = go (two (ltb (g .answer) (found .answer)))
     where
-      w : Answered r (found .run .best) g now below
+      w : AnsweredAs r (found .run .best) g now below
       w = follows-answers r (found .run .best) g now _ taken e
 
       on : (o : code-outcome.Outcome) → Stored r now (o .run .entries) (w .0) → whole ≡ wholeOf r setting room f s least (m + 1) o (w .0) → Looping r setting room f s least k o now whole
@@ -266,7 +265,7 @@ found-next r setting room c found g words now W n st e z l = go (two (ltb (g .an
     f : ℕ
     f = suc (sumOf size (stateOf c .pieces))
 
-    w : Answered r (found .run .best) g now (visit r (pairs r) setting room f (stateOf c) (runOf (found .run) n))
+    w : AnsweredAs r (found .run .best) g now (visit r (pairs r) setting room f (stateOf c) (runOf (found .run) n))
     w = follows-answers r (found .run .best) g now _ (W n st f (omega arith) (omega arith)) e
 
     go : (ltb (g .answer) (found .answer) ≡ true) ⊎ (ltb (g .answer) (found .answer) ≡ false)

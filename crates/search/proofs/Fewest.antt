@@ -27,7 +27,7 @@ use Rattle.search.proofs.Parts.{few}
 use Rattle.search.proofs.Refine.{one-within, one-apart, allows-allowed}
 use Rattle.search.proofs.LeastScore.{least-score}
 use Rattle.search.proofs.Tests.{after-length, joins-of}
-use Rattle.search.proofs.Fragments.{all-connected}
+use Rattle.molecule.proofs.Whole.{all-connected}
 use Rattle.search.proofs.Pathways.{least-has}
 use Rattle.search.proofs.Making.{joins-made}
 use Rattle.search.proofs.Owing.{Owes, owing}

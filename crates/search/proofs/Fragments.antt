@@ -1,57 +1,36 @@
--- Fragments of a record: the atoms of a set, sets with a common atom, and how connected sets come apart and go together; all bonds of an accepted record are connected.
--- Assumes 64 bonds or fewer where components are listed, and at the end that the record is accepted.
-use mathlib.Core.Path.{_≡_, refl, sym, ap, subst, _∙_}
+-- Fragments of a record: the atoms of a set, sets with a common atom, and how connected sets come apart and go together.
+-- Assumes 64 bonds or fewer where components are listed.
+use mathlib.Core.Path.{_≡_, sym, ap, subst, _∙_}
 use mathlib.Core.Bool.{true, not}
 use mathlib.Core.Logic.{_⊎_, inl, inr, _≢_, ⊎-elim}
-use mathlib.Core.List.{List, [], _∷_, List·Memᴰ as Mem, List·Memᴰ·head as m-head, List·Memᴰ·tail as m-tail}
+use mathlib.Core.List.{List, [], _∷_, List·Memᴰ as Mem}
 use Prim.Native.Nat.{ℕ, _^_, _≤_}
 use native.Mathlib.Omega.{arith}
-use native.Mathlib.Decide.{ℕ-discrete}
 use lib.Bits.{bitAnd, bitOr}
 use lib.Dec.{eqb}
-use lib.Pow.{pow-pos}
 use borrow.Author.Tests.{eqb-false, ne-eqb, not-true}
 use Rattle.bitset.specs.Bits.{bit, Sub, diff}
-use Rattle.bitset.proofs.Laws.{bit-le, bit-and, bit-one, bit-diff, bit-first, member-lt, or-cases, sub-or, union-one, union-of}
+use Rattle.bitset.proofs.Laws.{bit-le, bit-and, bit-one, bit-diff, or-cases, sub-or, union-one, union-of}
 use Rattle.bitset.proofs.Members.{in-or-out, sub-in, or-left-in, or-right-in, and-in, diff-sub, one-is, some-member, not-empty}
 use Rattle.bitset.proofs.Decide.{sets, v as set, or, less, none, is, sub}
 use Rattle.molecule.specs.Lists.{Bytes}
-use Rattle.molecule.specs.Record.{bonds, endA, endB, allBonds}
-use Rattle.molecule.specs.Check.{accepted, check}
+use Rattle.molecule.specs.Record.{bonds, endA, endB}
 use Rattle.molecule.specs.Touch.{components}
 use Rattle.molecule.specs.Connected.{Touch, Own, Linked, here, step, Connected}
-use Rattle.molecule.specs.Tree.{Joins, Walk, stay, along, Tree}
-use Rattle.molecule.proofs.Touching.{Share, touch-in, touch-has}
-use Rattle.molecule.proofs.Components.{link-wide, link-join, link-sym, component-self, components-mem, components-apart, components-connected, components-union}
-use Rattle.molecule.proofs.Reached.{joins-sym}
-use Rattle.molecule.proofs.Trees.{accepted-tree}
+use Rattle.molecule.proofs.Touching.{EndOf, Share, ends-share, share-ends, touch-in}
+use Rattle.molecule.proofs.Components.{link-wide, link-join, link-sym, components-apart, components-union}
+use Rattle.molecule.proofs.Whole.{share-link}
 use Rattle.canonize.specs.Isomorphism.{AtomOf}
 use Rattle.search.specs.Pathway.{atomsOf, meets}
 use Rattle.search.specs.Inner.Joining.{Cover}
-use Rattle.search.proofs.Covers.{cover-has, apart-cover, sub-none, less-self}
+use Rattle.search.proofs.Covers.{cover-has, apart-cover}
 
 module _ (r : Bytes) where
   -- ---- atoms
 
-  -- v is an end of bond i
-  abbrev End : ℕ → ℕ → Type 0
-  End i v = (endA r i ≡ v) ⊎ (endB r i ≡ v)
-
   -- the two ends of a bond, as a set of atoms
   abbrev endsOf : ℕ → ℕ
   endsOf i = bitOr (2 ^ endA r i) (2 ^ endB r i)
-
-  -- two bonds with an end in common share an atom
-  ends-share : (i j v : ℕ) → End i v → End j v → Share r i j
-  ends-share i j v (inl e) (inl f) = inl (inl (f ∙ sym e))
-  ends-share i j v (inl e) (inr f) = inl (inr (f ∙ sym e))
-  ends-share i j v (inr e) (inl f) = inr (inl (f ∙ sym e))
-  ends-share i j v (inr e) (inr f) = inr (inr (f ∙ sym e))
-
-  -- and a shared atom is an end of both
-  share-ends : (i j : ℕ) → Share r i j → (v : ℕ) × End i v × End j v
-  share-ends i j (inl e) = (endA r i, inl refl, e)
-  share-ends i j (inr e) = (endB r i, inr refl, e)
 
   -- the members of `atomsOf` are the atoms of the set
   pub atoms-in : (s v : ℕ) → bit (atomsOf r s) v ≡ 1 → AtomOf r s v
@@ -64,7 +43,7 @@ module _ (r : Bytes) where
   unfolding atomsOf
   atoms-has s v a = union-one endsOf s (a .0) v (a .1) (go (a .2))
     where
-      go : End (a .0) v → bit (endsOf (a .0)) v ≡ 1
+      go : EndOf r (a .0) v → bit (endsOf (a .0)) v ≡ 1
       go (inl e) = or-left-in (2 ^ endA r (a .0)) (2 ^ endB r (a .0)) v (subst (λ (x : ℕ). bit (2 ^ endA r (a .0)) x ≡ 1) e (bit-one (endA r (a .0))))
       go (inr e) = or-right-in (2 ^ endA r (a .0)) (2 ^ endB r (a .0)) v (subst (λ (x : ℕ). bit (2 ^ endB r (a .0)) x ≡ 1) e (bit-one (endB r (a .0))))
 
@@ -77,25 +56,17 @@ module _ (r : Bytes) where
       let w = some-member (bitAnd a b) (eqb-false (bitAnd a b) 0 (not-true (eqb (bitAnd a b) 0) e)) in
       let x = atoms-in s (w .0) (omega (arith, w .1, bit-and a b (w .0), bit-le a (w .0), bit-le b (w .0))) in
       let y = atoms-in t (w .0) (omega (arith, w .1, bit-and a b (w .0), bit-le a (w .0), bit-le b (w .0))) in
-      (x .0, y .0, x .1, y .1, ends-share (x .0) (y .0) (w .0) (x .2) (y .2))
+      (x .0, y .0, x .1, y .1, ends-share r (x .0) (y .0) (w .0) (x .2) (y .2))
 
   pub meets-has : (s t i j : ℕ) → bit s i ≡ 1 → bit t j ≡ 1 → Share r i j → meets r s t ≡ true
   unfolding meets
   meets-has s t i j hi hj h =
-      let w = share-ends i j h in
+      let w = share-ends r i j h in
       let a : ℕ = atomsOf r s in
       let b : ℕ = atomsOf r t in
       ap not (ne-eqb (bitAnd a b) 0 (not-empty (bitAnd a b) (w .0) (and-in a b (w .0) (atoms-has s (w .0) (i, hi, w .1)) (atoms-has t (w .0) (j, hj, w .2)))))
 
   -- ---- links
-
-  -- two bonds of a set that share an atom are linked in it
-  share-link : (s i j : ℕ) → Own r s → bit s i ≡ 1 → bit s j ≡ 1 → Share r i j → Linked r s i j
-  share-link s i j o hi hj h = go (ℕ-discrete j i)
-    where
-      go : Dec (j ≡ i) → Linked r s i j
-      go (yes e) = rw e (here hi)
-      go (no n) = step (here hi) (touch-has r i j n (member-lt (bonds r) s j o hj) h) hj
 
   -- a link from inside s to outside it has a step that leaves s
   leaves : (s p : ℕ) {b c : ℕ} → Linked r p b c → bit s b ≡ 1 → bit s c ≡ 0 → (x y : ℕ) × (bit s x ≡ 1) × (bit s y ≡ 0) × (bit p y ≡ 1) × Touch r x y
@@ -133,7 +104,7 @@ module _ (r : Bytes) where
       bridge : (b c : ℕ) → bit s b ≡ 1 → bit t c ≡ 1 → Linked r u b c
       bridge b c hb hc =
           link-join r (link-wide r u left (ks .linked b (w .0) hb (w .2)))
-          (link-join r (share-link u (w .0) (w .1) o (or-left-in s t (w .0) (w .2)) (or-right-in s t (w .1) (w .3)) (w .4)) (link-wide r u right (kt .linked (w .1) c (w .3) hc)))
+          (link-join r (share-link r u (w .0) (w .1) o (or-left-in s t (w .0) (w .2)) (or-right-in s t (w .1) (w .3)) (w .4)) (link-wide r u right (kt .linked (w .1) c (w .3) hc)))
 
       go : (b c : ℕ) → (bit s b ≡ 1) ⊎ (bit t b ≡ 1) → (bit s c ≡ 1) ⊎ (bit t c ≡ 1) → Linked r u b c
       go b c (inl hb) (inl hc) = link-wide r u left (ks .linked b c hb hc)
@@ -159,58 +130,3 @@ module _ (r : Bytes) where
     -- they cover the set
     pub components-cover : (s : ℕ) → Own r s → Cover s (components r s)
     components-cover s o = apart-cover s (components r s) (components-apart r few s o) (components-union r few s o)
-
-    -- a connected set is its only component
-    pub components-one : (s : ℕ) → Own r s → Connected r s → components r s ≡ s ∷ []
-    components-one s o k = go (components r s) (components-cover s o) (λ c m. components-connected r few s o c m .0) (λ c m. let w = components-mem r few s o c m in w .1 ∙ component-self r s _ k (w .0))
-      where
-        go : (l : List ℕ) → Cover s l → ((c : ℕ) → Mem c l → Connected r c) → ((c : ℕ) → Mem c l → c ≡ s) → l ≡ s ∷ []
-        go [] c f e = absurd (k .some c)
-        go (x ∷ []) c f e = ap (λ (y : ℕ). y ∷ []) (e x (m-head refl))
-        go (x ∷ y ∷ l) c f e =
-            let z : diff s x ≡ 0 = ap (diff s) (e x (m-head refl)) ∙ less-self s in
-            absurd (f y (m-tail (m-head refl)) .some (sub-none y (subst (Sub y) z (c .1 .0))))
-
-  -- ---- all bonds
-
-  -- what a bond joins are its ends
-  joins-from : (i u v : ℕ) → Joins r i u v → End i u
-  joins-from i u v (inl q) = inl (q .0)
-  joins-from i u v (inr q) = inr (q .1)
-
-  joins-to : (i u v : ℕ) → Joins r i u v → End i v
-  joins-to i u v j = joins-from i v u (joins-sym r i u v j)
-
-  -- the bonds at the two ends of a walk are linked: each bond of the walk shares an atom with the one before it
-  walk-links : (s : ℕ) → Own r s → {u v : ℕ} → Walk r s u v → (b c : ℕ) → bit s b ≡ 1 → bit s c ≡ 1 → End b u → End c v → Linked r s b c
-  walk-links s o {u} stay b c hb hc e f = share-link s b c o hb hc (ends-share b c u e f)
-  walk-links s o (along {v = x} {w = y} i p hi j) b c hb hc e f =
-      link-join r (walk-links s o p b i hb hi e (joins-from i x y j)) (share-link s i c o hi hc (ends-share i c y (joins-to i x y j) f))
-
-  -- walks one after another, and back
-  walk-join : {s u v w : ℕ} → Walk r s u v → Walk r s v w → Walk r s u w
-  walk-join p stay = p
-  walk-join p (along i q h j) = along i (walk-join p q) h j
-
-  walk-sym : {s u v : ℕ} → Walk r s u v → Walk r s v u
-  walk-sym stay = stay
-  walk-sym (along {v = x} {w = y} i p h j) = walk-join (along i stay h (joins-sym r i x y j)) (walk-sym p)
-
-  -- all bonds of an accepted record are connected: from an end of the one bond back to atom 0, and on to an end of the other
-  pub all-connected : check r ≡ accepted → Connected r (allBonds r)
-  all-connected ok = record {
-    some = not-empty a 0 (bit-first (bonds r) 0 (omega (arith, t .formed .sized .some)));
-    linked = λ b c hb hc. walk-links a own (walk-join (walk-sym (to b hb)) (to c hc)) b c hb hc (inl refl) (inl refl);
-  }
-    where
-      a : ℕ
-      a = allBonds r
-
-      t : Tree r
-      t = accepted-tree r ok
-
-      own : Own r a
-      own = omega (arith, pow-pos (bonds r))
-
-      to : (b : ℕ) → bit a b ≡ 1 → Walk r a 0 (endA r b)
-      to b h = t .all (endA r b) (t .formed .ends b (member-lt (bonds r) a b own h) .0)

@@ -16,7 +16,7 @@ use Rattle.molecule.specs.Lists.{filter, sortBy}
 use Rattle.molecule.specs.Connected.{Apart}
 use Rattle.molecule.proofs.Lists.{any-some, any-none, Ordered, ordered-by, sort-ordered}
 use Rattle.bounds.specs.Numbers.{sumOf}
-use Rattle.bounds.specs.Inner.Removals.{Inside, PiecesWithin}
+use Rattle.bounds.specs.Inner.Removals.{InOnePiece, PiecesWithin}
 use Rattle.bounds.proofs.Numbers.{sum-append}
 use Rattle.bounds.proofs.Steps.{apart-append}
 use Rattle.search.specs.State.{inside}
@@ -25,12 +25,12 @@ use Rattle.search.specs.Inner.Claims.{Refines}
 -- ---- inside a piece
 
 -- where the test is true, a set lies in a piece
-pub inside-true : (P : List ℕ) (h : ℕ) → inside P h ≡ true → Inside h P
+pub inside-true : (P : List ℕ) (h : ℕ) → inside P h ≡ true → InOnePiece h P
 unfolding inside
 inside-true P h e = let w = any-some (isSub h) P e in (w .0, w .1, eqb-true (bitAnd h (w .0)) h (w .2))
 
 -- and where it lies in one, the test is true
-pub true-inside : (P : List ℕ) (h : ℕ) → Inside h P → inside P h ≡ true
+pub true-inside : (P : List ℕ) (h : ℕ) → InOnePiece h P → inside P h ≡ true
 unfolding inside
 true-inside P h i = go (two (inside P h))
   where
@@ -39,7 +39,7 @@ true-inside P h i = go (two (inside P h))
     go (inr e) = absurd (true≢false (sym (eq-eqb (bitAnd h (i .0)) h (i .2)) ∙ any-none (isSub h) P e (i .0) (i .1)))
 
 -- what is inside X is inside what X refines
-pub inside-refines : {X P : List ℕ} (f : ℕ) → Refines X P → Inside f X → Inside f P
+pub inside-refines : {X P : List ℕ} (f : ℕ) → Refines X P → InOnePiece f X → InOnePiece f P
 inside-refines f h i = let w = h (i .0) (i .1) in (w .0, w .1, sub-trans f (i .0) (w .0) (i .2) (w .2))
 
 -- what is within U stays so

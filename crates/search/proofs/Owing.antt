@@ -36,7 +36,7 @@ use Rattle.matches.specs.Table.{pair, pairs}
 use Rattle.matches.specs.Laws.{Twins}
 use Rattle.matches.specs.Inner.Ranks.{Akin, precedes, before, number}
 use Rattle.matches.proofs.Laws.{akin-sym, akin-trans, precedes-akin, akin-precedes, precedes-refl, precedes-both, Last, last-one, before-in, before-has, before-perm, before-fewer}
-use Rattle.bounds.specs.Inner.Removals.{big, Inside, PiecesWithin}
+use Rattle.bounds.specs.Inner.Removals.{big, InOnePiece, PiecesWithin}
 use Rattle.bounds.proofs.Numbers.{sum-append, sum-perm}
 use Rattle.bounds.proofs.Steps.{apart-sub, apart-sym, apart-append, apart-perm, apart-big}
 use Rattle.search.specs.Pathway.{union}
@@ -60,7 +60,7 @@ module _ (r : Bytes) where
     pub own : Own r x
     pub whole : Connected r x
     pub two-bonds : 2 ≤ size x
-    pub lies : Inside x P
+    pub lies : InOnePiece x P
     pub has : HasLabel r L x
 
   -- what the claim asks of L, Q, P and k
@@ -93,7 +93,7 @@ module _ (r : Bytes) where
   ready-like l a x e s (inr w) = inr (w .0, w .1, w .2 ∙ e)
 
   -- a half of two bonds or more is owed where c lies in a piece
-  half-owed : (l P : List ℕ) (c x : ℕ) → Half l c x → 2 ≤ size x → Inside c P → Owed l P x
+  half-owed : (l P : List ℕ) (c x : ℕ) → Half l c x → 2 ≤ size x → InOnePiece c P → Owed l P x
   half-owed l P c x h b i =
       let has : Ready r l x → HasLabel r l x = λ w. ⊎-elim (λ (o : size x ≡ 1). absurd (omega arith)) (λ (g : HasLabel r l x). g) w in
       record { own = h .own; whole = h .whole; two-bonds = b; lies = (i .0, i .1, sub-trans x c (i .0) (h .inside) (i .2)); has = has (h .ready) }
@@ -148,7 +148,7 @@ module _ (r : Bytes) where
           before-fewer r q (u .0) L (u .1) (precedes-akin r q (u .0) q (u .2) ∙ precedes-refl r q)
 
       -- a fragment of D is owed by what is left, where it lies in a piece: the set of L that has its label is akin to it
-      old-owed : (z : ℕ) → Mem z D → (P′ : List ℕ) → Inside z P′ → Owed L′ P′ z
+      old-owed : (z : ℕ) → Mem z D → (P′ : List ℕ) → InOnePiece z P′ → Owed L′ P′ z
       old-owed z i P′ I =
           let d = before-in r q z Q i in
           let o = h .owed z (d .0) in
@@ -217,7 +217,7 @@ module _ (r : Bytes) where
             apart-append new D (apart-big (x ∷ y ∷ []) (two-apart x y (halves .apart))) (apart-left D (c ∷ cs) all-apart)
             (λ a b i j. apart-sym b a (apart-sub b c a (clear b c j (m-head refl)) (new-half a i .0 .inside)))
 
-        new-owed : (z : ℕ) → Mem z new → (P′ : List ℕ) → Inside c P′ → Owed L′ P′ z
+        new-owed : (z : ℕ) → Mem z new → (P′ : List ℕ) → InOnePiece c P′ → Owed L′ P′ z
         new-owed z i P′ I = let w = new-half z i in half-owed L′ P′ c z (w .0) (w .1) I
 
         left-owes : (P′ : List ℕ) (k′ : ℕ) → Stage r c D L′ P′ k′ → Owes L′ (new ++ D) P′ k′

@@ -17,7 +17,7 @@ use Rattle.molecule.proofs.Accepted.{accepted-formed}
 use Rattle.molecule.proofs.Components.{all-own, components-connected, components-inside, components-apart, components-union}
 use Rattle.molecule.proofs.Perms.{keep-mem, keep-intro}
 use Rattle.bounds.specs.Numbers.{sumOf}
-use Rattle.bounds.specs.Inner.Removals.{Split, Inside}
+use Rattle.bounds.specs.Inner.Removals.{Split, InOnePiece}
 use Rattle.bounds.proofs.Savings.{split-size}
 use Rattle.bounds.proofs.Steps.{apart-big, split-of, less-split}
 use Rattle.search.specs.State.{bigComponents}
@@ -51,7 +51,7 @@ module _ (r : Bytes) (ok : check r ≡ accepted) where
         (k .0, k .1, leb-true 2 (size c) (w .1))
 
     -- a fragment of two bonds or more lies in one of them
-    pub big-covers : (f : ℕ) → Connected r f → 2 ≤ size f → Sub f s → Inside f (bigComponents r s)
+    pub big-covers : (f : ℕ) → Connected r f → 2 ≤ size f → Sub f s → InOnePiece f (bigComponents r s)
     unfolding bigComponents
     big-covers f k t q =
         let w = components-inside r few s own f k q in

@@ -36,7 +36,7 @@ use Rattle.search.specs.Inner.Joining.{MembersIn, after, Ready, EndsWith
 use Rattle.search.specs.Examples.{compute}
 use Rattle.search.proofs.Covers.{cover-mem, cover-apart, flat-mem, mem-flat, less-self}
 use Rattle.search.proofs.Tests.{and-both, any-has, any-find, after-append, joins-append, ends-append, joins-test}
-use Rattle.search.proofs.Fragments.{all-connected}
+use Rattle.molecule.proofs.Whole.{all-connected}
 use Rattle.search.proofs.Building.{grown-builds}
 use Rattle.search.proofs.Rebuilding.{grown-done, split-pieces, one-built, one-done, two-done, one-count, two-count}
 

@@ -1,7 +1,7 @@
 -- One removal and its undoing: the pieces after a match is removed, the joins that put the pieces of its two fragments together again, and how many they are.
 -- Assumes 64 bonds or fewer, and of the two fragments h1 and h2 that they are twins (M1).
 use mathlib.Core.Path.{_≡_, refl, sym, ap, subst, _∙_}
-use mathlib.Core.Logic.{_⊎_, inl, inr, _≢_, ⊎-elim}
+use mathlib.Core.Logic.{inl, inr, _≢_, ⊎-elim}
 use mathlib.Core.List.{List, [], _∷_, _++_, flatMap, List·Memᴰ as Mem, List·Memᴰ·head as m-head, List·Memᴰ·cases-cons as mem-cons, List·Memᴰ·not-nil as not-nil, List·Memᴰ·append-cases as mem-cases, List·Memᴰ·eq-of-singleton as mem-only, Memᴰ·append-left as mem-left, Memᴰ·append-right as mem-right}
 use Prim.Native.Nat.{ℕ, suc, _+_, _^_, _≤_}
 use native.Mathlib.Omega.{arith}
@@ -15,13 +15,13 @@ use Rattle.molecule.specs.Lists.{Bytes}
 use Rattle.molecule.specs.Record.{bonds}
 use Rattle.molecule.specs.Touch.{components}
 use Rattle.molecule.specs.Connected.{Own, Connected}
-use Rattle.molecule.proofs.Components.{own-sub, own-word, components-connected}
+use Rattle.molecule.proofs.Components.{own-sub, own-word, components-connected, components-self}
 use Rattle.matches.specs.Laws.{Twins}
 use Rattle.search.specs.Pathway.{Join, assemble, grown}
 use Rattle.search.specs.Inner.Joining.{Cover, Picks, now, after, Ready, Built, Pieces, Parts, Done}
 use Rattle.search.proofs.Covers.{cover-mem, cover-apart, cover-append, cover-flat, cover-pick, pick-within, pick-length, pick-other, pick-flat, mem-pick, flat-mem, mem-flat, less-self, less-none, less-apart, apart-swap}
 use Rattle.search.proofs.Tests.{ready-after, after-append, joins-append}
-use Rattle.search.proofs.Fragments.{components-cover, components-one}
+use Rattle.search.proofs.Fragments.{components-cover}
 use Rattle.search.proofs.Building.{assemble-length, grown-length, built-ready, assemble-builds, grown-builds}
 
 -- ---- sets
@@ -95,7 +95,7 @@ module _ (r : Bytes) where
   module _ (few : bonds r ≤ 64) where
     -- a piece that nothing is struck from stays: a connected set is its only component
     still : (p t : ℕ) → Own r p → Connected r p → Disjoint p t → components r (diff p t) ≡ p ∷ []
-    still p t o k d = ap (components r) (less-none p t d) ∙ components-one r few p o k
+    still p t o k d = ap (components r) (less-none p t d) ∙ components-self r few p o k
 
     -- so as many pieces are left where nothing is struck
     still-length : (t w : ℕ) (l : List ℕ) → Pieces r w l → Disjoint w t → length (flatMap (λ p. components r (diff p t)) l) ≡ length l

@@ -23,7 +23,7 @@ use Rattle.molecule.proofs.Perms.{keep-mem, keep-intro}
 use Rattle.molecule.proofs.Lists.{numbers-bounds, numbers-mem}
 use Rattle.matches.specs.Table.{Pair, pair, sizeOf}
 use Rattle.matches.specs.Laws.{Laws}
-use Rattle.bounds.specs.Inner.Removals.{Inside, PiecesWithin}
+use Rattle.bounds.specs.Inner.Removals.{InOnePiece, PiecesWithin}
 use Rattle.search.specs.State.{struck, inside, bigComponents, removable, maskOf, keep, remove}
 use Rattle.search.specs.Series.{allowedFrom}
 use Rattle.search.specs.Inner.Claims.{Refines, KeepsFragments, Removable, Allows}
@@ -161,10 +161,10 @@ module _ (r : Bytes) (ms : List Pair) where
 
 module _ (r : Bytes) (ok : check r ≡ accepted) (ms : List Pair) where
   -- pieces only shrink
-  remove-shrinks : (P : List ℕ) (m : ℕ) → PiecesWithin (allBonds r) P → Inside (pair ms m .h1) P → Refines (remove r ms P m) P
+  remove-shrinks : (P : List ℕ) (m : ℕ) → PiecesWithin (allBonds r) P → InOnePiece (pair ms m .h1) P → Refines (remove r ms P m) P
   remove-shrinks P m W h c i = go (remove-cases r ms P m c i)
     where
-      go : Left r ms P m c ⊎ (c ≡ pair ms m .h1) → Inside c P
+      go : Left r ms P m c ⊎ (c ≡ pair ms m .h1) → InOnePiece c P
       go (inl w) =
           let d : ℕ = diff (w .0) (struck ms m) in
           let q = big-is r ok d (diff-within (w .0) (struck ms m) (allBonds r) (W (w .0) (w .1))) c (w .2) in
@@ -172,12 +172,12 @@ module _ (r : Bytes) (ok : check r ≡ accepted) (ms : List Pair) where
       go (inr e) = rw e h
 
   -- so they go on holding bonds of the record
-  pub remove-within : (P : List ℕ) (m : ℕ) → PiecesWithin (allBonds r) P → Inside (pair ms m .h1) P → PiecesWithin (allBonds r) (remove r ms P m)
+  pub remove-within : (P : List ℕ) (m : ℕ) → PiecesWithin (allBonds r) P → InOnePiece (pair ms m .h1) P → PiecesWithin (allBonds r) (remove r ms P m)
   remove-within P m W h = refines-within (allBonds r) (remove-shrinks P m W h) W
 
   -- a fragment of two bonds or more that misses both fragments of a match stays inside a piece
   pub remove-keeps : (P : List ℕ) (m y : ℕ) → PiecesWithin (allBonds r) P → Connected r y → 2 ≤ size y → Disjoint y (pair ms m .h1) → Disjoint y (pair ms m .h2)
-      → Inside y P → Inside y (remove r ms P m)
+      → InOnePiece y P → InOnePiece y (remove r ms P m)
   unfolding struck
   remove-keeps P m y W k t d e i =
       let p : ℕ = i .0 in
@@ -190,7 +190,7 @@ module _ (r : Bytes) (ok : check r ≡ accepted) (ms : List Pair) where
   pub remove-refines : (X P : List ℕ) (m : ℕ) → PiecesWithin (allBonds r) P → Refines X P → Refines (remove r ms X m) (remove r ms P m)
   remove-refines X P m W h c i = go (remove-cases r ms X m c i)
     where
-      go : Left r ms X m c ⊎ (c ≡ pair ms m .h1) → Inside c (remove r ms P m)
+      go : Left r ms X m c ⊎ (c ≡ pair ms m .h1) → InOnePiece c (remove r ms P m)
       go (inr e) = (pair ms m .h1, remove-first r ms P m, rw e (and-self (pair ms m .h1)))
       go (inl w) =
           let x : ℕ = w .0 in
@@ -240,7 +240,7 @@ module _ (r : Bytes) (ok : check r ≡ accepted) (ms : List Pair) where
   remove-serves : (U : ℕ) (X P : List ℕ) (m : ℕ) → PiecesWithin (allBonds r) X → PiecesWithin (allBonds r) P → KeepsFragments r U X P → KeepsFragments r U (remove r ms X m) (remove r ms P m)
   remove-serves U X P m WX WP h f j t u i = go (remove-cases r ms P m (i .0) (i .1))
     where
-      go : Left r ms P m (i .0) ⊎ (i .0 ≡ pair ms m .h1) → Inside f (remove r ms X m)
+      go : Left r ms P m (i .0) ⊎ (i .0 ≡ pair ms m .h1) → InOnePiece f (remove r ms X m)
       go (inr e) = (pair ms m .h1, remove-first r ms X m, rw e at (i .2))
       go (inl w) =
           let p : ℕ = w .0 in
@@ -263,7 +263,7 @@ module _ (r : Bytes) (ok : check r ≡ accepted) (ms : List Pair) where
         unions-one (struck ms) (filter (λ m. eqb (sizeOf ms m) 2) (removable r ms P n)) j b
         (keep-intro (λ m. eqb (sizeOf ms m) 2) (removable r ms P n) (mem-removable r ms P n j (found j (c .later) (c .within) (c .inside))) (eq-eqb (sizeOf ms j) 2 (c .two))) held
       where
-        lies : (x y : ℕ) → Sub x y → Inside y P → Inside x P
+        lies : (x y : ℕ) → Sub x y → InOnePiece y P → InOnePiece x P
         lies x y q i = (i .0, i .1, sub-trans x y (i .0) q (i .2))
 
         found : (j : ℕ) → m ≤ j → j < length ms

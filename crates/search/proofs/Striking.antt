@@ -19,7 +19,7 @@ use Rattle.matches.specs.Laws.{Twins}
 use Rattle.matches.specs.Inner.Ranks.{Akin, precedes, number}
 use Rattle.matches.proofs.Laws.{sizeOf-first, precedes-akin, MatchOf, firsts-order, seconds-order, twins-match}
 use Rattle.bounds.specs.Numbers.{sumOf}
-use Rattle.bounds.specs.Inner.Removals.{Inside, PiecesWithin}
+use Rattle.bounds.specs.Inner.Removals.{InOnePiece, PiecesWithin}
 use Rattle.bounds.proofs.Steps.{apart-sym}
 use Rattle.search.specs.State.{remove}
 use Rattle.search.specs.Series.{saved}
@@ -42,14 +42,14 @@ Late r k l = (u : ℕ) → Mem u l → (i : ℕ) → i < length (pairs r) → Ak
 pub record TwinIn (r : Bytes) (q : ℕ) (D P : List ℕ) (c : ℕ) : Type 0 where
   pub twins : Twins r q c
   pub earlier : number r c ≤ number r q
-  pub lies : Inside c P
+  pub lies : InOnePiece c P
   pub clear : (y : ℕ) → Mem y D → Disjoint y c
 
 -- q and the sets of D are inside pieces of P, and the matches of the sets of L are numbered k or more
 pub record Stage (r : Bytes) (q : ℕ) (D L P : List ℕ) (k : ℕ) : Type 0 where
   pub within : PiecesWithin (allBonds r) P
-  pub kept : Inside q P
-  pub others : (y : ℕ) → Mem y D → Inside y P
+  pub kept : InOnePiece q P
+  pub others : (y : ℕ) → Mem y D → InOnePiece y P
   pub late : Late r k L
 
 -- the sets of D are fragments of two bonds or more that miss q; the sets of L come strictly before q
@@ -59,7 +59,7 @@ module _ (r : Bytes) (ok : check r ≡ accepted) (q : ℕ) (D L : List ℕ)
 
   module _ (P : List ℕ) (k m c : ℕ) (s : Stage r q D L P k) (t : TwinIn r q D P c) (is : MatchOf r q c m) where
     -- what misses q and c stays inside a piece
-    stays : (y : ℕ) → Connected r y → 2 ≤ size y → Disjoint y q → Disjoint y c → Inside y P → Inside y (remove r (pairs r) P m)
+    stays : (y : ℕ) → Connected r y → 2 ≤ size y → Disjoint y q → Disjoint y c → InOnePiece y P → InOnePiece y (remove r (pairs r) P m)
     stays y w b d e i = remove-keeps r ok (pairs r) P m y (s .within) w b (rw (is .1) d) (rw (is .2) e) i
 
     -- so the sets of D do; q is a piece of its own; and the matches of L are numbered after m, since their first fragments come before q
@@ -105,7 +105,7 @@ module _ (r : Bytes) (ok : check r ≡ accepted) (q : ℕ) (D L : List ℕ)
         let w = strike cs (remove r (pairs r) P m) (suc m) (next-stage P k m b s t is)
         (λ x i. next-twin P k m b s t is x (twin x (m-tail i)) (apart .0 x i)) (apart .1) (order .1)
         (λ x i j. later P k m b s t is x (apart .0 x i) (order .0 x i) j) in
-        let in1 : Inside (pair (pairs r) m .h1) P = rw (is .1) (s .kept) in
-        let in2 : Inside (pair (pairs r) m .h2) P = rw (is .2) (t .lies) in
+        let in1 : InOnePiece (pair (pairs r) m .h1) P = rw (is .1) (s .kept) in
+        let in2 : InOnePiece (pair (pairs r) m .h2) P = rw (is .2) (t .lies) in
         let removable : Removable (pairs r) P k m = record { after = from b (m-head refl) m is; is = is .0; in1 = in1; in2 = in2 } in
         (m ∷ w .0, (removable, w .1), omega (arith, w .2, sizeOf-first (pairs r) m, ap size (is .1), t .twins .same-size))

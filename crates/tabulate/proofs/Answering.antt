@@ -4,18 +4,16 @@ use mathlib.Core.List.{List, [], _∷_, _++_}
 use Prim.Native.Nat.{ℕ, _*_, _≤_, _<_}
 use native.Mathlib.Omega.{arith}
 use lib.ListN.{length, getD, drop, length-append, length-drop}
-use borrow.Author.Tests.{ltb-false}
 use Rattle.molecule.specs.Lists.{Bytes}
 use Rattle.molecule.specs.Record.{bonds}
-use Rattle.molecule.specs.Check.{Answer, accepted, refused, row, check}
-use Rattle.molecule.proofs.Accepted.{row-next, rowAt-next}
+use Rattle.molecule.specs.Check.{Answer, accepted, refused, check}
 use Rattle.matches.specs.Table.{Table, matchTable, pairs}
-use Rattle.matches.specs.Rows.{partsRoom, pairsRoom, overflows, tooMany, tableAnswer}
+use Rattle.matches.specs.Rows.{partsRoom, pairsRoom, tableAnswer}
 use Rattle.matches.specs.Inner.Written.{wordsOf, matchesIn, StartsBefore, Recorded}
 use Rattle.tabulate.specs.Built.{counted, turnedBack, buildAnswer}
 use Rattle.tabulate.specs.Inner.PairsLeft.{matchWords, pairsAfter}
 use Rattle.tabulate.specs.Inner.Walked.{WholeTable, NoRoom}
-use Rattle.matches.proofs.Laws.{parts-over, pairs-over, all-fit}
+use Rattle.matches.proofs.Laws.{parts-over, pairs-over, all-fit, table-fits}
 use Rattle.tabulate.proofs.Writing.{words-length}
 use Rattle.matches.proofs.Laws.{pairs-length, table-recorded, starts-before, matches-in, words-in}
 use Rattle.tabulate.proofs.Stages.{table-zero}
@@ -122,11 +120,7 @@ module _ (r : Bytes) (parts : ℕ) (old : List ℕ) (ok : tableAnswer (matchTabl
 
   -- and they have room
   pub after-room : 4 * length (pairs r) ≤ length old
-  unfolding tableAnswer tooMany
-  after-room =
-      let a = rowAt-next 9 (overflows (matchTable r) (partsRoom parts)) (length (matchTable r .needs)) (row 10 (length (matchTable r .matches)) (tooMany (matchTable r) (pairsRoom (length old))) accepted) ok .1 in
-      let b = row-next 10 (length (matchTable r .matches)) (tooMany (matchTable r) (pairsRoom (length old))) accepted a .0 in
-      omega (arith, ltb-false (pairsRoom (length old)) (length (matchTable r .matches)) b, room-pairs (length old), after-count)
+  after-room = omega (arith, table-fits (matchTable r) parts (length old) ok, room-pairs (length old), after-count)
 
   -- pairs records them
   pub after-recorded : Recorded (pairsAfter r parts old) (pairs r)

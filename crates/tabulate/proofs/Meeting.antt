@@ -13,7 +13,7 @@ use Rattle.bitset.specs.Bits.{isDisjoint}
 use Rattle.molecule.specs.Lists.{fold}
 use Rattle.matches.specs.Table.{Group, note}
 use Rattle.enumerate.specs.Inner.Grouped.{groupAt}
-use Rattle.tabulate.specs.Inner.Noded.{bothNoted, nodesAfter, nodesOf, apart, pairsWith, disjointPairs, pairsIn, Noded, Beside, Named, Paired, ahead, Linked, Naming, Meeting, Rounding, Pairing, Groups, Grown}
+use Rattle.tabulate.specs.Inner.Noded.{bothNoted, nodesAfter, nodesOf, apart, pairsWith, disjointPairs, pairsIn, Noded, Beside, Named, PairsMade, ahead, LeadsThrough, Naming, Meeting, ToMeet, Pairing, Groups, Grown}
 use Rattle.enumerate.proofs.Chains.{note-length}
 use Rattle.enumerate.proofs.Placing.{group-first, group-later}
 use Rattle.tabulate.proofs.Noding.{both-yes, both-no, apart-yes, apart-no, boths-length, after-length, of-length, beside-then}
@@ -28,7 +28,7 @@ module _ {parts : List ℕ} {p : ℕ} {l nodes : List ℕ} {i j count matches : 
   meet-first = record { noded = w .noded; long = w .long; within = w .one }
 
   pub meet-none : {s : ℕ} → isDisjoint (getD parts (p + i) 0) (getD parts (p + j) 0) ≡ false
-      → Paired parts p l (bothNoted (getD l i 0) nodes (getD l j 0)) (matches + apart (getD l i 0) (getD l j 0)) s count count matches
+      → PairsMade parts p l (bothNoted (getD l i 0) nodes (getD l j 0)) (matches + apart (getD l i 0) (getD l j 0)) s count count matches
   meet-none e = rw (both-no (getD l i 0) nodes (getD l j 0) (test false e)) (record {
     named = record {
       long = λ g. sym (w .long);
@@ -50,7 +50,7 @@ module _ {parts : List ℕ} {p : ℕ} {l nodes : List ℕ} {i j count matches : 
       first : Named then p l (note nodes (getD l i 0)) s count n
       first = q .1 l nodes meet-first
 
-      pub meet-over : p < n → Paired then p l (bothNoted (getD l i 0) nodes (getD l j 0)) (matches + apart (getD l i 0) (getD l j 0)) s count n matches
+      pub meet-over : p < n → PairsMade then p l (bothNoted (getD l i 0) nodes (getD l j 0)) (matches + apart (getD l i 0) (getD l j 0)) s count n matches
       meet-over h = rw (both-yes (getD l i 0) nodes (getD l j 0) (test true e)) (record {
         named = record {
           long = λ g. absurd (omega arith);
@@ -79,7 +79,7 @@ module _ {parts : List ℕ} {p : ℕ} {l nodes : List ℕ} {i j count matches : 
           start-of g m a b (yes d) = q′ .0 .starts m d (omega arith) ∙ first .starts h m a d
           start-of g m a b (no d) = second .starts g m (omega arith) b
 
-          pub meet-both : Paired last p l (bothNoted (getD l i 0) nodes (getD l j 0)) (matches + apart (getD l i 0) (getD l j 0)) s count k (matches + 1)
+          pub meet-both : PairsMade last p l (bothNoted (getD l i 0) nodes (getD l j 0)) (matches + apart (getD l i 0) (getD l j 0)) s count k (matches + 1)
           meet-both = rw (both-yes (getD l i 0) nodes (getD l j 0) (test true e)) (record {
             named = record {
               long = second .long;
@@ -94,16 +94,16 @@ module _ {parts : List ℕ} {p : ℕ} {l nodes : List ℕ} {i j count matches : 
 -- ---- members of a group
 
 -- the next member, with index k - 1
-pub record Turn (parts : List ℕ) (p : ℕ) (l : List ℕ) (k : ℕ) (left : List ℕ) : Type 0 where
+pub record NextMember (parts : List ℕ) (p : ℕ) (l : List ℕ) (k : ℕ) (left : List ℕ) : Type 0 where
   pub next : List ℕ
   pub within : k - 1 < length l
   pub is : left ≡ getD l (k - 1) 0 ∷ next
   pub less : ahead p (getD parts (5 * p + (k - 1)) 0) < ahead p k
-  pub linked : Linked parts p l (getD parts (5 * p + (k - 1)) 0) next
+  pub linked : LeadsThrough parts p l (getD parts (5 * p + (k - 1)) 0) next
 
 module _ (parts : List ℕ) (p : ℕ) (l : List ℕ) (k : ℕ) where
-  pub turn : (left : List ℕ) → Linked parts p l k left → k ≢ 0 → Turn parts p l k left
-  unfolding Linked
+  pub turn : (left : List ℕ) → LeadsThrough parts p l k left → k ≢ 0 → NextMember parts p l k left
+  unfolding LeadsThrough
   turn [] e n = absurd (n e)
   turn (x ∷ xs) w n =
       let j : k - 1 ≡ w .0 = omega (arith, w .1) in
@@ -115,14 +115,14 @@ module _ (parts : List ℕ) (p : ℕ) (l : List ℕ) (k : ℕ) where
         linked = rw j (w .5);
       }
 
-  pub turned : (left : List ℕ) → Linked parts p l k left → k ≡ 0 → left ≡ []
-  unfolding Linked
+  pub turned : (left : List ℕ) → LeadsThrough parts p l k left → k ≡ 0 → left ≡ []
+  unfolding LeadsThrough
   turned [] e n = refl
   turned (x ∷ xs) w n = absurd (omega (arith, w .1))
 
 -- region 5 is as it was
-pub linked-kept : (old now : List ℕ) (p : ℕ) (l : List ℕ) → length l ≤ p → ((i : ℕ) → i < p → getD now (5 * p + i) 0 ≡ getD old (5 * p + i) 0) → (k : ℕ) (sets : List ℕ) → Linked old p l k sets → Linked now p l k sets
-unfolding Linked
+pub linked-kept : (old now : List ℕ) (p : ℕ) (l : List ℕ) → length l ≤ p → ((i : ℕ) → i < p → getD now (5 * p + i) 0 ≡ getD old (5 * p + i) 0) → (k : ℕ) (sets : List ℕ) → LeadsThrough old p l k sets → LeadsThrough now p l k sets
+unfolding LeadsThrough
 linked-kept old now p l h e k [] w = w
 linked-kept old now p l h e k (x ∷ xs) w =
     let q : getD now (5 * p + w .0) 0 ≡ getD old (5 * p + w .0) 0 = e (w .0) (omega (arith, w .2)) in
@@ -131,19 +131,19 @@ linked-kept old now p l h e k (x ∷ xs) w =
 -- ---- one candidate with those after it
 
 -- candidate i has met some; those left are still to be met. There are n nodes and m matches; k is 1 more than the index of the next, 0 for none
-pub record Round (old now : List ℕ) (p : ℕ) (l nodes sets : List ℕ) (i s count matches n m k : ℕ) : Type 0 where
+pub record MetSome (old now : List ℕ) (p : ℕ) (l nodes sets : List ℕ) (i s count matches n m k : ℕ) : Type 0 where
   pub list : List ℕ
   pub left : List ℕ
   pub noded : Noded now p l list
   pub long : length list ≡ n
   pub more : count ≤ n
-  pub linked : Linked old p l k left
+  pub linked : LeadsThrough old p l k left
   pub nodes-are : fold (bothNoted (getD l i 0)) list left ≡ fold (bothNoted (getD l i 0)) nodes sets
   pub matches-are : m + pairsWith (getD l i 0) left ≡ matches + pairsWith (getD l i 0) sets
   pub starts : (a : ℕ) → count ≤ a → a < n → getD now (8 * p + a) 0 ≡ s
 
-module _ {old : List ℕ} {p : ℕ} {l nodes sets : List ℕ} {i count matches : ℕ} (f : Rounding old p l nodes sets i count matches) where
-  pub round-start : {s : ℕ} → Round old old p l nodes sets i s count matches count matches (getD old (5 * p + i) 0)
+module _ {old : List ℕ} {p : ℕ} {l nodes sets : List ℕ} {i count matches : ℕ} (f : ToMeet old p l nodes sets i count matches) where
+  pub round-start : {s : ℕ} → MetSome old old p l nodes sets i s count matches count matches (getD old (5 * p + i) 0)
   round-start = record {
     list = nodes;
     left = sets;
@@ -156,11 +156,11 @@ module _ {old : List ℕ} {p : ℕ} {l nodes sets : List ℕ} {i count matches :
     starts = λ a g h. absurd (omega arith);
   }
 
-  module _ {s : ℕ} {now : List ℕ} {n m k : ℕ} (w : Round old now p l nodes sets i s count matches n m k) where
-    pub round-turn : k ≢ 0 → Turn old p l k (w .left)
+  module _ {s : ℕ} {now : List ℕ} {n m k : ℕ} (w : MetSome old now p l nodes sets i s count matches n m k) where
+    pub round-turn : k ≢ 0 → NextMember old p l k (w .left)
     round-turn d = turn old p l k (w .left) (w .linked) d
 
-    pub round-done : k ≡ 0 → Paired now p l (fold (bothNoted (getD l i 0)) nodes sets) (matches + pairsWith (getD l i 0) sets) s count n m
+    pub round-done : k ≡ 0 → PairsMade now p l (fold (bothNoted (getD l i 0)) nodes sets) (matches + pairsWith (getD l i 0) sets) s count n m
     unfolding pairsWith
     round-done e =
         let z : w .left ≡ [] = turned old p l k (w .left) (w .linked) e in
@@ -188,8 +188,8 @@ module _ {old : List ℕ} {p : ℕ} {l nodes sets : List ℕ} {i count matches :
       -- it meets candidate k - 1
       module _ (b : Beside old now p count) {then : List ℕ} {r t : ℕ}
           (q : Beside now then p n × ((l nodes : List ℕ) → Meeting now p l nodes i (k - 1) n m
-          → Paired then p l (bothNoted (getD l i 0) nodes (getD l (k - 1) 0)) (m + apart (getD l i 0) (getD l (k - 1) 0)) s n r t)) where
-        got : Paired then p l (bothNoted (getD l i 0) (w .list) (getD l (k - 1) 0)) (m + apart (getD l i 0) (getD l (k - 1) 0)) s n r t
+          → PairsMade then p l (bothNoted (getD l i 0) nodes (getD l (k - 1) 0)) (m + apart (getD l i 0) (getD l (k - 1) 0)) s n r t)) where
+        got : PairsMade then p l (bothNoted (getD l i 0) (w .list) (getD l (k - 1) 0)) (m + apart (getD l i 0) (getD l (k - 1) 0)) s n r t
         got = q .1 l (w .list) round-meeting
 
         pub round-beside : Beside old then p count
@@ -208,7 +208,7 @@ module _ {old : List ℕ} {p : ℕ} {l nodes sets : List ℕ} {i count matches :
         start-at g a h j (yes e) = q .0 .starts a e (omega arith) ∙ w .starts a h e
         start-at g a h j (no e) = got .named .starts g a (omega arith) j
 
-        pub round-next : r ≤ p → Round old then p l nodes sets i s count matches r t (getD then (5 * p + (k - 1)) 0)
+        pub round-next : r ≤ p → MetSome old then p l nodes sets i s count matches r t (getD then (5 * p + (k - 1)) 0)
         round-next g = record {
           list = bothNoted (getD l i 0) (w .list) (getD l (k - 1) 0);
           left = round-turn d .next;
@@ -221,7 +221,7 @@ module _ {old : List ℕ} {p : ℕ} {l nodes sets : List ℕ} {i count matches :
           starts = λ a h j. start-at g a h j (decLt a n);
         }
 
-        pub round-over : p < r → Paired then p l (fold (bothNoted (getD l i 0)) nodes sets) (matches + pairsWith (getD l i 0) sets) s count r t
+        pub round-over : p < r → PairsMade then p l (fold (bothNoted (getD l i 0)) nodes sets) (matches + pairsWith (getD l i 0) sets) s count r t
         round-over g = record {
           named = record {
             long = λ h. absurd (omega arith);
@@ -236,27 +236,27 @@ module _ {old : List ℕ} {p : ℕ} {l nodes sets : List ℕ} {i count matches :
 -- ---- a group
 
 -- some members have met those after them; those left are still to do so. There are n nodes and m matches; k is 1 more than the index of the next, 0 for none
-pub record Walk (old now : List ℕ) (p : ℕ) (l nodes sets : List ℕ) (s count matches n m k : ℕ) : Type 0 where
+pub record WalkedGroup (old now : List ℕ) (p : ℕ) (l nodes sets : List ℕ) (s count matches n m k : ℕ) : Type 0 where
   pub list : List ℕ
   pub left : List ℕ
   pub noded : Noded now p l list
   pub long : length list ≡ n
   pub more : count ≤ n
-  pub linked : Linked old p l k left
+  pub linked : LeadsThrough old p l k left
   pub nodes-are : nodesAfter list left ≡ nodesAfter nodes sets
   pub matches-are : m + disjointPairs left ≡ matches + disjointPairs sets
   pub starts : (a : ℕ) → count ≤ a → a < n → getD now (8 * p + a) 0 ≡ s
 
 module _ {old : List ℕ} {p : ℕ} {l nodes sets : List ℕ} {first count matches : ℕ} (f : Pairing old p l nodes sets first count matches) where
   pub walk-first : first < length l
-  unfolding Linked
+  unfolding LeadsThrough
   walk-first = go sets (f .linked)
     where
-      go : (xs : List ℕ) → Linked old p l (suc first) xs → first < length l
+      go : (xs : List ℕ) → LeadsThrough old p l (suc first) xs → first < length l
       go [] w = absurd (omega (arith, w))
       go (x ∷ xs) w = omega (arith, w .1, w .2)
 
-  pub walk-start : {s : ℕ} → Walk old old p l nodes sets s count matches count matches (first + 1)
+  pub walk-start : {s : ℕ} → WalkedGroup old old p l nodes sets s count matches count matches (first + 1)
   walk-start = record {
     list = nodes;
     left = sets;
@@ -269,11 +269,11 @@ module _ {old : List ℕ} {p : ℕ} {l nodes sets : List ℕ} {first count match
     starts = λ a g h. absurd (omega arith);
   }
 
-  module _ {s : ℕ} {now : List ℕ} {n m k : ℕ} (w : Walk old now p l nodes sets s count matches n m k) where
-    pub walk-turn : k ≢ 0 → Turn old p l k (w .left)
+  module _ {s : ℕ} {now : List ℕ} {n m k : ℕ} (w : WalkedGroup old now p l nodes sets s count matches n m k) where
+    pub walk-turn : k ≢ 0 → NextMember old p l k (w .left)
     walk-turn d = turn old p l k (w .left) (w .linked) d
 
-    pub walk-done : k ≡ 0 → Paired now p l (nodesAfter nodes sets) (matches + disjointPairs sets) s count n m
+    pub walk-done : k ≡ 0 → PairsMade now p l (nodesAfter nodes sets) (matches + disjointPairs sets) s count n m
     unfolding disjointPairs nodesAfter
     walk-done e =
         let z : w .left ≡ [] = turned old p l k (w .left) (w .linked) e in
@@ -292,7 +292,7 @@ module _ {old : List ℕ} {p : ℕ} {l nodes sets : List ℕ} {first count match
       link-now : getD now (5 * p + (k - 1)) 0 ≡ getD old (5 * p + (k - 1)) 0
       link-now = b .middle (5 * p + (k - 1)) (omega arith) (omega (arith, walk-turn d .within, f .noded .listed .fits))
 
-      pub walk-rounding : Rounding now p l (w .list) (walk-turn d .next) (k - 1) n m
+      pub walk-rounding : ToMeet now p l (w .list) (walk-turn d .next) (k - 1) n m
       walk-rounding = record {
         noded = w .noded;
         long = w .long;
@@ -304,9 +304,9 @@ module _ {old : List ℕ} {p : ℕ} {l nodes sets : List ℕ} {first count match
 
       -- candidate k - 1 meets those after it
       module _ {then : List ℕ} {r t : ℕ} (q : Beside now then p n
-          × ((l nodes sets : List ℕ) → Rounding now p l nodes sets (k - 1) n m
-          → Paired then p l (fold (bothNoted (getD l (k - 1) 0)) nodes sets) (m + pairsWith (getD l (k - 1) 0) sets) s n r t)) where
-        gone : Paired then p l (fold (bothNoted (getD l (k - 1) 0)) (w .list) (walk-turn d .next)) (m + pairsWith (getD l (k - 1) 0) (walk-turn d .next)) s n r t
+          × ((l nodes sets : List ℕ) → ToMeet now p l nodes sets (k - 1) n m
+          → PairsMade then p l (fold (bothNoted (getD l (k - 1) 0)) nodes sets) (m + pairsWith (getD l (k - 1) 0) sets) s n r t)) where
+        gone : PairsMade then p l (fold (bothNoted (getD l (k - 1) 0)) (w .list) (walk-turn d .next)) (m + pairsWith (getD l (k - 1) 0) (walk-turn d .next)) s n r t
         gone = q .1 l (w .list) (walk-turn d .next) walk-rounding
 
         pub walk-beside : Beside old then p count
@@ -326,7 +326,7 @@ module _ {old : List ℕ} {p : ℕ} {l nodes sets : List ℕ} {first count match
         start-in g a h j (yes e) = q .0 .starts a e (omega arith) ∙ w .starts a h e
         start-in g a h j (no e) = gone .named .starts g a (omega arith) j
 
-        pub walk-next : r ≤ p → Walk old then p l nodes sets s count matches r t (getD then (5 * p + (k - 1)) 0)
+        pub walk-next : r ≤ p → WalkedGroup old then p l nodes sets s count matches r t (getD then (5 * p + (k - 1)) 0)
         walk-next g = record {
           list = fold (bothNoted (getD l (k - 1) 0)) (w .list) (walk-turn d .next);
           left = walk-turn d .next;
@@ -339,7 +339,7 @@ module _ {old : List ℕ} {p : ℕ} {l nodes sets : List ℕ} {first count match
           starts = λ a h j. start-in g a h j (decLt a n);
         }
 
-        pub walk-over : p < r → Paired then p l (nodesAfter nodes sets) (matches + disjointPairs sets) s count r t
+        pub walk-over : p < r → PairsMade then p l (nodesAfter nodes sets) (matches + disjointPairs sets) s count r t
         walk-over g = record {
           named = record {
             long = λ h. absurd (omega arith);
@@ -426,8 +426,8 @@ module _ {old : List ℕ} {p : ℕ} {l nodes : List ℕ} {gs : List Group} {grou
       -- group g is paired up
       module _ {then : List ℕ} {r t : ℕ} (q : Beside now then p n
           × ((l nodes sets : List ℕ) → Pairing now p l nodes sets (getD now (4 * p + g) 0) n m
-          → Paired then p l (nodesAfter nodes sets) (m + disjointPairs sets) n n r t)) where
-        made : Paired then p l (nodesAfter (nodesOf nodes (take g gs)) (groupAt gs g .sets)) (m + disjointPairs (groupAt gs g .sets)) n n r t
+          → PairsMade then p l (nodesAfter nodes sets) (m + disjointPairs sets) n n r t)) where
+        made : PairsMade then p l (nodesAfter (nodesOf nodes (take g gs)) (groupAt gs g .sets)) (m + disjointPairs (groupAt gs g .sets)) n n r t
         made = q .1 l (nodesOf nodes (take g gs)) (groupAt gs g .sets) whole-pairing
 
         pub whole-beside : Beside old then p count

@@ -17,8 +17,8 @@ use Rattle.molecule.specs.Lists.{Bytes, any, fold}
 use Rattle.molecule.proofs.Perms.{Distinct}
 use Rattle.matches.specs.Table.{Group, Table, note, meet, pairUp, groups, extend}
 use Rattle.enumerate.specs.Inner.Bucketed.{Bucketed}
-use Rattle.enumerate.specs.Inner.Grouped.{groupAt, Chain, Grouped}
-use Rattle.tabulate.specs.Inner.Noded.{bothNoted, nodesAfter, nodesOf, apart, pairsWith, disjointPairs, pairsIn, flagOf, Noded, Beside, Named, ahead, Linked, AllLinked, Naming}
+use Rattle.enumerate.specs.Inner.Grouped.{groupAt, Threaded, Grouped}
+use Rattle.tabulate.specs.Inner.Noded.{bothNoted, nodesAfter, nodesOf, apart, pairsWith, disjointPairs, pairsIn, flagOf, Noded, Beside, Named, ahead, LeadsThrough, AllLead, Naming}
 use Rattle.matches.proofs.Laws.{distinct-at}
 use Rattle.enumerate.proofs.Chains.{enumerated-same, bucketed-same, any-end, any-hit, note-known, note-fresh, note-length}
 use Rattle.enumerate.proofs.Grouping.{chain-below, chain-rise, chain-split}
@@ -316,8 +316,8 @@ noded-start parts p l nodes f wide d few numbers fresh none = record {
 }
 
 -- the chains of groups, as the functions read them
-chain-linked : {parts l : List ℕ} {p n e : ℕ} (sets : List ℕ) (i : ℕ) → n ≤ length l → length l ≤ p → Chain parts p l n i sets e → Linked parts p l (suc i) sets
-unfolding Linked ahead
+chain-linked : {parts l : List ℕ} {p n e : ℕ} (sets : List ℕ) (i : ℕ) → n ≤ length l → length l ≤ p → Threaded parts p l n i sets e → LeadsThrough parts p l (suc i) sets
+unfolding LeadsThrough ahead
 chain-linked [] i h k c = let z = chain-split c in absurd (omega (arith, ap (λ (y : List ℕ). length y) (z .1)))
 chain-linked {parts} {l} {p} {n} {e} (x ∷ xs) i h k c = go (chain-split c) (λ j d. chain-linked xs j h k d)
   where
@@ -325,15 +325,15 @@ chain-linked {parts} {l} {p} {n} {e} (x ∷ xs) i h k c = go (chain-split c) (λ
     below = omega (arith, chain-rise c, chain-below c)
 
     go : (rest : List ℕ) × (x ∷ xs ≡ getD l i 0 ∷ rest)
-        × (((getD parts (5 * p + i) 0 ≡ 0) × (rest ≡ [])) ⊎ ((j : ℕ) × (i < j) × (getD parts (5 * p + i) 0 ≡ suc j) × Chain parts p l n j rest e))
-        → ((j : ℕ) → Chain parts p l n j xs e → Linked parts p l (suc j) xs) → Linked parts p l (suc i) (x ∷ xs)
+        × (((getD parts (5 * p + i) 0 ≡ 0) × (rest ≡ [])) ⊎ ((j : ℕ) × (i < j) × (getD parts (5 * p + i) 0 ≡ suc j) × Threaded parts p l n j rest e))
+        → ((j : ℕ) → Threaded parts p l n j xs e → LeadsThrough parts p l (suc j) xs) → LeadsThrough parts p l (suc i) (x ∷ xs)
     go (rest, q, inl (a, b)) ih =
         let f : xs ≡ [] = cc in
         (i, refl, omega (arith, below), cc, rw a (omega (arith, below)), rw (f, a))
     go (rest, q, inr (j, a, b, d)) ih =
         let f : rest ≡ xs = cc in
-        let d′ : Chain parts p l n j xs e = rw f at d in
+        let d′ : Threaded parts p l n j xs e = rw f at d in
         (i, refl, omega (arith, below), cc, rw b (omega (arith, chain-rise d′, chain-below d′)), rw b (ih j d′))
 
-pub grouped-linked : (r : Bytes) (parts : List ℕ) (p : ℕ) (l : List ℕ) (gs : List Group) → length l ≤ p → Grouped r parts p l (length l) gs → AllLinked parts p l gs
+pub grouped-linked : (r : Bytes) (parts : List ℕ) (p : ℕ) (l : List ℕ) (gs : List Group) → length l ≤ p → Grouped r parts p l (length l) gs → AllLead parts p l gs
 grouped-linked r parts p l gs h g k j = chain-linked (groupAt gs k .sets) (getD parts (4 * p + k) 0) (omega arith) h (g .chains k j)

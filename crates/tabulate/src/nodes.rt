@@ -4,7 +4,8 @@ ghost use Prim.Native.Nat.{ℕ, _+_};
 ghost use lib.ListN.{getD};
 ghost use Rattle.molecule.specs.Lists.{fold};
 ghost use Rattle.matches.specs.Table.{Group, note};
-ghost use Rattle.tabulate.specs.Inner.Noded.{bothNoted, apart, pairsWith, disjointPairs, nodesAfter, Beside, Named, Paired, Naming, Meeting, Rounding, Pairing, Groups, Grown};
+ghost use Rattle.tabulate.specs.Inner.Noded.{bothNoted, apart, pairsWith, disjointPairs, nodesAfter};
+ghost use Rattle.tabulate.specs.Inner.Noded.{Beside, Named, PairsMade, Naming, Meeting, ToMeet, Pairing, Groups, Grown};
 
 // How many nodes there are, and how many matches.
 pub struct Done {
@@ -37,7 +38,7 @@ fn meet(parts: &mut [u64], p: usize, i: usize, j: usize, start: usize, done: Don
     requires { ⌜ ((l : List ℕ) × (nodes : List ℕ) × Meeting (now parts) p l nodes i j (done .nodes) (done .matches)) ⌝ }
     ensures { λ r. ⌜ Beside (now (parts .entry)) (now (parts .exit)) p (done .nodes)
         × ((l nodes : List ℕ) → Meeting (now (parts .entry)) p l nodes i j (done .nodes) (done .matches)
-        → Paired (now (parts .exit)) p l (bothNoted (getD l i 0) nodes (getD l j 0)) (done .matches + apart (getD l i 0) (getD l j 0)) start (done .nodes)
+        → PairsMade (now (parts .exit)) p l (bothNoted (getD l i 0) nodes (getD l j 0)) (done .matches + apart (getD l i 0) (getD l j 0)) start (done .nodes)
         (r .nodes) (r .matches)) ⌝ }
 {
     let x = parts[p + i];
@@ -61,10 +62,10 @@ fn meet(parts: &mut [u64], p: usize, i: usize, j: usize, start: usize, done: Don
 
 // Candidate i meets each member after it of its group.
 fn pair_with(parts: &mut [u64], p: usize, i: usize, start: usize, done: Done) -> Done
-    requires { ⌜ ((l : List ℕ) × (nodes : List ℕ) × (sets : List ℕ) × Rounding (now parts) p l nodes sets i (done .nodes) (done .matches)) ⌝ }
+    requires { ⌜ ((l : List ℕ) × (nodes : List ℕ) × (sets : List ℕ) × ToMeet (now parts) p l nodes sets i (done .nodes) (done .matches)) ⌝ }
     ensures { λ r. ⌜ Beside (now (parts .entry)) (now (parts .exit)) p (done .nodes)
-        × ((l nodes sets : List ℕ) → Rounding (now (parts .entry)) p l nodes sets i (done .nodes) (done .matches)
-        → Paired (now (parts .exit)) p l (fold (bothNoted (getD l i 0)) nodes sets) (done .matches + pairsWith (getD l i 0) sets) start (done .nodes)
+        × ((l nodes sets : List ℕ) → ToMeet (now (parts .entry)) p l nodes sets i (done .nodes) (done .matches)
+        → PairsMade (now (parts .exit)) p l (fold (bothNoted (getD l i 0)) nodes sets) (done .matches + pairsWith (getD l i 0) sets) start (done .nodes)
         (r .nodes) (r .matches)) ⌝ }
 {
     let mut d = done;
@@ -85,7 +86,7 @@ fn pair_group(parts: &mut [u64], p: usize, first: usize, done: Done) -> Done
     requires { ⌜ ((l : List ℕ) × (nodes : List ℕ) × (sets : List ℕ) × Pairing (now parts) p l nodes sets first (done .nodes) (done .matches)) ⌝ }
     ensures { λ r. ⌜ Beside (now (parts .entry)) (now (parts .exit)) p (done .nodes)
         × ((l nodes sets : List ℕ) → Pairing (now (parts .entry)) p l nodes sets first (done .nodes) (done .matches)
-        → Paired (now (parts .exit)) p l (nodesAfter nodes sets) (done .matches + disjointPairs sets) (done .nodes) (done .nodes) (r .nodes) (r .matches)) ⌝ }
+        → PairsMade (now (parts .exit)) p l (nodesAfter nodes sets) (done .matches + disjointPairs sets) (done .nodes) (done .nodes) (r .nodes) (r .matches)) ⌝ }
 {
     let mut d = done;
     let mut k = first as u64 + 1;

@@ -29,8 +29,8 @@ Splits (p ∷ P) [] = ⊥
 Splits (p ∷ P) (l ∷ ls) = Split p l × Splits P ls
 
 -- h lies in one piece
-abbrev pub Inside : ℕ → List ℕ → Type 0
-Inside h P = (p : ℕ) × List·Memᴰ p P × Sub h p
+abbrev pub InOnePiece : ℕ → List ℕ → Type 0
+InOnePiece h P = (p : ℕ) × List·Memᴰ p P × Sub h p
 
 -- every piece lies in U
 abbrev pub PiecesWithin : ℕ → List ℕ → Type 0
@@ -81,7 +81,7 @@ Falls n [] = Unit {0}
 Falls n (m ∷ τ) = (size (m .first) ≤ n) × Falls (size (m .first)) τ
 
 -- no fragment is above k, each is within W, and each of size k is within F
-pub record Fits (k F W : ℕ) (m : Removal) : Type 0 where
+pub record FitsIn (k F W : ℕ) (m : Removal) : Type 0 where
   pub most : size (m .first) ≤ k
   pub first-in : Sub (m .first) W
   pub second-in : Sub (m .second) W
@@ -90,7 +90,7 @@ pub record Fits (k F W : ℕ) (m : Removal) : Type 0 where
 
 abbrev pub AllFit : ℕ → ℕ → ℕ → List Removal → Type 0
 AllFit k F W [] = Unit {0}
-AllFit k F W (m ∷ τ) = Fits k F W m × AllFit k F W τ
+AllFit k F W (m ∷ τ) = FitsIn k F W m × AllFit k F W τ
 
 -- ---- what a piece can save
 

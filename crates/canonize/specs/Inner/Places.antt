@@ -20,23 +20,23 @@ pub record Wrote (out : Bytes) (k : ℕ) (x : Bytes) (next : ℕ) (now : Bytes) 
   pub is : now ≡ written out k x
 
 -- the n bytes from one place on and the m bytes from another on have none in common
-abbrev pub Apart : ℕ → ℕ → ℕ → ℕ → Type 0
-Apart from n to m = (from + n ≤ to) ⊎ (to + m ≤ from)
+abbrev pub NoneShared : ℕ → ℕ → ℕ → ℕ → Type 0
+NoneShared from n to m = (from + n ≤ to) ⊎ (to + m ≤ from)
 
 -- the n bytes from a place on are bytes of the string of slot t
-pub record Inside (t place n : ℕ) : Type 0 where
+pub record InSlot (t place n : ℕ) : Type 0 where
   pub within : t < 66
   pub from : 391 * t + 2 ≤ place
   pub to : place + n ≤ 391 * t + 391
 
 -- they are bytes of a slot that is none of the set's
-pub record Room (set place n : ℕ) : Type 0 where
+pub record FreeSlot (set place n : ℕ) : Type 0 where
   pub slot : ℕ
-  pub inside : Inside slot place n
+  pub inside : InSlot slot place n
   pub other : bit set slot ≡ 0
 
 -- the slate was old and is now, with x as the string of slot i
-pub record Placed (old : Bytes) (i : ℕ) (x now : Bytes) : Type 0 where
+pub record SlotIs (old : Bytes) (i : ℕ) (x now : Bytes) : Type 0 where
   pub serves : Slate now
   pub this : slot now i ≡ x
   pub others : (j : ℕ) → j ≢ i → slot now j ≡ slot old j

@@ -19,9 +19,9 @@ unfoldable pub groupAt : List Group → ℕ → Group
 groupAt gs k = getD gs k (record { key = []; sets = [] })
 
 -- from candidate i on, region 5 leads through these sets to candidate e, where it ends; the indices rise and are below n
-pub data Chain (parts : List ℕ) (p : ℕ) (l : List ℕ) (n : ℕ) : ℕ → List ℕ → ℕ → Type 0 where
-  ends : {i : ℕ} → i < n → getD parts (5 * p + i) 0 ≡ 0 → Chain parts p l n i (getD l i 0 ∷ []) i
-  then : {i j e : ℕ} {sets : List ℕ} → i < j → getD parts (5 * p + i) 0 ≡ suc j → Chain parts p l n j sets e → Chain parts p l n i (getD l i 0 ∷ sets) e
+pub data Threaded (parts : List ℕ) (p : ℕ) (l : List ℕ) (n : ℕ) : ℕ → List ℕ → ℕ → Type 0 where
+  ends : {i : ℕ} → i < n → getD parts (5 * p + i) 0 ≡ 0 → Threaded parts p l n i (getD l i 0 ∷ []) i
+  then : {i j e : ℕ} {sets : List ℕ} → i < j → getD parts (5 * p + i) 0 ≡ suc j → Threaded parts p l n j sets e → Threaded parts p l n i (getD l i 0 ∷ sets) e
 
 -- groups whose members have the group's key as label; the keys ascend strictly
 pub record Keyed (r : Bytes) (gs : List Group) : Type 0 where
@@ -32,7 +32,7 @@ pub record Keyed (r : Bytes) (gs : List Group) : Type 0 where
 pub record Grouped (r : Bytes) (parts : List ℕ) (p : ℕ) (l : List ℕ) (n : ℕ) (gs : List Group) : Type 0 where
   pub few : length gs ≤ n
   pub keyed : Keyed r gs
-  pub chains : (k : ℕ) → k < length gs → Chain parts p l n (getD parts (4 * p + k) 0) (groupAt gs k .sets) (getD parts (6 * p + getD parts (4 * p + k) 0) 0)
+  pub chains : (k : ℕ) → k < length gs → Threaded parts p l n (getD parts (4 * p + k) 0) (groupAt gs k .sets) (getD parts (6 * p + getD parts (4 * p + k) 0) 0)
 
 -- the table holds the candidates l, fragments of the record, and has room for their groups
 pub record Groupable (r : Bytes) (parts : List ℕ) (p : ℕ) (l : List ℕ) : Type 0 where
@@ -101,8 +101,8 @@ pub record Hinted (r : Bytes) (parts : List ℕ) (p j : ℕ) : Type 0 where
   pub connected : (f : ℕ) → getD parts (9 * p + j) 0 ≡ suc f → Connected r (getD parts (p + f) 0)
 
 -- and its label is x
-abbrev pub Leads : Bytes → List ℕ → ℕ → ℕ → Bytes → Type 0
-Leads r parts p j x = (f : ℕ) × (getD parts (9 * p + j) 0 ≡ suc f) × (same x (label r (getD parts (p + f) 0)) ≡ true)
+abbrev pub HintLeads : Bytes → List ℕ → ℕ → ℕ → Bytes → Type 0
+HintLeads r parts p j x = (f : ℕ) × (getD parts (9 * p + j) 0 ≡ suc f) × (same x (label r (getD parts (p + f) 0)) ≡ true)
 
 -- there were g groups and are n: each first member is one still, and where they are not as many candidate i is one
 pub record Moved (old now : List ℕ) (p g n i : ℕ) : Type 0 where
@@ -118,6 +118,6 @@ pub record Placing (r : Bytes) (parts : List ℕ) (p : ℕ) (l : List ℕ) (i : 
   pub its : x ≡ label r (getD l i 0)
 
 -- it has gone there, and there are g groups now
-pub record Placed (r : Bytes) (parts : List ℕ) (p : ℕ) (l : List ℕ) (i : ℕ) (gs : List Group) (g : ℕ) (x : Bytes) : Type 0 where
+pub record GroupPlaced (r : Bytes) (parts : List ℕ) (p : ℕ) (l : List ℕ) (i : ℕ) (gs : List Group) (g : ℕ) (x : Bytes) : Type 0 where
   pub grouped : Grouped r parts p l (i + 1) (place gs (getD l i 0) x)
   pub count : length (place gs (getD l i 0) x) ≡ g

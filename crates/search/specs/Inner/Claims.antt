@@ -11,7 +11,7 @@ use Rattle.molecule.specs.Record.{bonds, allBonds}
 use Rattle.molecule.specs.Connected.{Connected, Apart}
 use Rattle.matches.specs.Table.{Pair, pair, sizeOf}
 use Rattle.bounds.specs.Numbers.{sumOf}
-use Rattle.bounds.specs.Inner.Removals.{Inside, PiecesWithin}
+use Rattle.bounds.specs.Inner.Removals.{InOnePiece, PiecesWithin}
 use Rattle.search.specs.Setting.{Setting, hasMemo}
 use Rattle.search.specs.State.{State, removable, maskOf, keep, remove}
 use Rattle.search.specs.Search.{Run, Outcome, answers, halts}
@@ -19,18 +19,18 @@ use Rattle.search.specs.Series.{saved}
 
 -- every piece of the first list lies in one of the second
 abbrev pub Refines : List ℕ → List ℕ → Type 0
-Refines X P = (x : ℕ) → List·Memᴰ x X → Inside x P
+Refines X P = (x : ℕ) → List·Memᴰ x X → InOnePiece x P
 
 -- X keeps the fragments of P over U: every fragment of two or more bonds that is within U and inside P is inside X
 abbrev pub KeepsFragments : Bytes → ℕ → List ℕ → List ℕ → Type 0
-KeepsFragments r U X P = (f : ℕ) → Connected r f → 2 ≤ size f → Sub f U → Inside f P → Inside f X
+KeepsFragments r U X P = (f : ℕ) → Connected r f → 2 ≤ size f → Sub f U → InOnePiece f P → InOnePiece f X
 
 -- match m is removable from the pieces P: its number is n or more, and each fragment lies in a piece
 pub record Removable (ms : List Pair) (P : List ℕ) (n m : ℕ) : Type 0 where
   pub after : n ≤ m
   pub is : m < length ms
-  pub in1 : Inside (pair ms m .h1) P
-  pub in2 : Inside (pair ms m .h2) P
+  pub in1 : InOnePiece (pair ms m .h1) P
+  pub in2 : InOnePiece (pair ms m .h2) P
 
 -- `allowedFrom` in words: each match of the series is removable when its turn comes, and the numbers rise
 abbrev pub Allows : Bytes → List Pair → ℕ → List ℕ → List ℕ → Type 0

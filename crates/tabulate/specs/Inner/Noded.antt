@@ -77,7 +77,7 @@ pub record Named (now : List ℕ) (p : ℕ) (l nodes : List ℕ) (start count r 
   pub over : p < r → p < length nodes
 
 -- the answer r, m where there are to be so many matches besides
-pub record Paired (now : List ℕ) (p : ℕ) (l nodes : List ℕ) (total start count r m : ℕ) : Type 0 where
+pub record PairsMade (now : List ℕ) (p : ℕ) (l nodes : List ℕ) (total start count r m : ℕ) : Type 0 where
   pub named : Named now p l nodes start count r
   pub matches : r ≤ p → m ≡ total
 
@@ -89,13 +89,13 @@ ahead p zero = 0
 ahead p (suc i) = p - i
 
 -- where k is 1 more than the index of a candidate, 0 for none, region 5 leads from it through these sets; the indices rise
-unfoldable pub Linked : List ℕ → ℕ → List ℕ → ℕ → List ℕ → Type 0
-Linked parts p l k [] = k ≡ 0
-Linked parts p l k (x ∷ xs) = (i : ℕ) × (k ≡ suc i) × (i < length l) × (x ≡ getD l i 0) × (ahead p (getD parts (5 * p + i) 0) < ahead p (suc i)) × Linked parts p l (getD parts (5 * p + i) 0) xs
+unfoldable pub LeadsThrough : List ℕ → ℕ → List ℕ → ℕ → List ℕ → Type 0
+LeadsThrough parts p l k [] = k ≡ 0
+LeadsThrough parts p l k (x ∷ xs) = (i : ℕ) × (k ≡ suc i) × (i < length l) × (x ≡ getD l i 0) × (ahead p (getD parts (5 * p + i) 0) < ahead p (suc i)) × LeadsThrough parts p l (getD parts (5 * p + i) 0) xs
 
 -- the groups, each from the index in region 4 on
-abbrev pub AllLinked : List ℕ → ℕ → List ℕ → List Group → Type 0
-AllLinked parts p l gs = (k : ℕ) → k < length gs → Linked parts p l (suc (getD parts (4 * p + k) 0)) (groupAt gs k .sets)
+abbrev pub AllLead : List ℕ → ℕ → List ℕ → List Group → Type 0
+AllLead parts p l gs = (k : ℕ) → k < length gs → LeadsThrough parts p l (suc (getD parts (4 * p + k) 0)) (groupAt gs k .sets)
 
 -- ---- what the functions require
 
@@ -114,18 +114,18 @@ pub record Meeting (parts : List ℕ) (p : ℕ) (l nodes : List ℕ) (i j count 
   pub room : matches + apart (getD l i 0) (getD l j 0) < 2 ^ 64
 
 -- candidate i is to meet the members after it
-pub record Rounding (parts : List ℕ) (p : ℕ) (l nodes sets : List ℕ) (i count matches : ℕ) : Type 0 where
+pub record ToMeet (parts : List ℕ) (p : ℕ) (l nodes sets : List ℕ) (i count matches : ℕ) : Type 0 where
   pub noded : Noded parts p l nodes
   pub long : length nodes ≡ count
   pub within : i < length l
-  pub linked : Linked parts p l (getD parts (5 * p + i) 0) sets
+  pub linked : LeadsThrough parts p l (getD parts (5 * p + i) 0) sets
   pub room : matches + pairsWith (getD l i 0) sets < 2 ^ 64
 
 -- the group of these sets, from candidate first on, is to be paired up
 pub record Pairing (parts : List ℕ) (p : ℕ) (l nodes sets : List ℕ) (first count matches : ℕ) : Type 0 where
   pub noded : Noded parts p l nodes
   pub long : length nodes ≡ count
-  pub linked : Linked parts p l (suc first) sets
+  pub linked : LeadsThrough parts p l (suc first) sets
   pub room : matches + disjointPairs sets < 2 ^ 64
 
 -- the groups gs are to be paired up
@@ -134,7 +134,7 @@ pub record Groups (parts : List ℕ) (p : ℕ) (l nodes : List ℕ) (gs : List G
   pub long : length nodes ≡ count
   pub many : length gs ≡ groups
   pub few : groups ≤ p
-  pub linked : AllLinked parts p l gs
+  pub linked : AllLead parts p l gs
   pub room : pairsIn gs < 2 ^ 64
 
 -- the answer r, m for all groups

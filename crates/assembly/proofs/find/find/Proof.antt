@@ -38,21 +38,35 @@ run-requires c κs =
     let w : length (take n (a .pairs .now)) ≡ n = length-take-le n (a .pairs .now) (omega (arith, s .pre .3)) in
     (s .pre .0, recorded-front (a .pairs .now) (pairs (a .bytes .now)) n (omega (arith, s .pre .2)) (s .pre .1), omega (arith, w, s .pre .2), omega (arith, s .pre .2, s .pre .4), stored-zeros _ _ (length (a .memo .now)) (c .before .before .before .before .before .before .before .before .before .zero .ensures), cached-zeros _ _ (length (a .desk .now)) (c .before .before .before .before .before .zero2 .ensures) (s .pre .6))
 
+-- from where the search has run, the call's start and where the memo has been cleared
+abbrev start : tie.After-run → tie.Start
+start c = c .before .before .before .before .before .before .before .before .before .before .before .before .before .before .before .before .before
+
+abbrev cleared : tie.After-run → tie.After-zero
+cleared c = c .before .before .before .before .before .before .before .before .before .before
+
+-- from where it has answered, where it has run
+abbrev ran : tie.Then1 → tie.After-run
+ran c = c .before .before .before .before .before
+
+-- a trail has 32 numbers
+whole : (c : tie.After-run) → length (c .run .result .trail) ≡ 32
+whole c = search needs
+
 -- at most 32 removals are written
-short : (c : tie.Then1) → c .before .before .before .before .before .run .result .length ≤ 32
+short : (c : tie.Then1) → ran c .run .result .length ≤ 32
 short c =
-    let s = c .before .before .before .before .before .before .before .before .before .before .before .before .before .before .before .before .before .before .before .before .before .before in
-    let o = c .before .before .before .before .before .run in
-    found-short (s .args .bytes .now) (s .pre .0) (s .args .setting) (bonds (s .args .bytes .now) - 1) (o .result) _ (s .args .memo .now) _ (c .before .before .before .before .before .before .before .before .before .before .before .before .before .before .before .zero .kept .0) (o .ensures) (c .if1 .taken)
+    let s = start (ran c) in
+    let o = ran c .run in
+    found-short (s .args .bytes .now) (s .pre .0) (s .args .setting) (bonds (s .args .bytes .now) - 1) (o .result) _ (s .args .memo .now) _ (cleared (ran c) .zero .kept .0) (o .ensures) (c .if1 .taken)
 
 slice-aggregate-write : tie.Need-slice-aggregate-write
 slice-aggregate-write c = search needs
 
 write-requires : tie.Need-write-requires
 write-requires c κs =
-    let h : length (c .before .before .before .before .before .before .before .before .run .result .trail) ≡ 32 = search needs in
-    let g : c .before .before .before .before .before .before .before .before .run .result .length ≤ 32 = short (c .before .before .before) in
-    (g, omega arith, c .before .before .before .before .before .before .before .before .before .before .before .before .before .before .before .before .before .before .before .before .before .before .before .before .before .pre .5)
+    let p = c .before .before .before in
+    (short p, omega (arith, short p, whole (ran p)), start (ran p) .pre .5)
 
 cast-t33 : tie.Need-cast-t33
 cast-t33 c = omega (arith, short (c .before .before .before .before .before .before .before))
@@ -68,10 +82,10 @@ same-length-3 c = search needs
 
 returns : tie.Need-returns
 returns c =
-    let s = c .before .before .before .before .before .before .before .before .before .before .before .before .before .before .before .before .before .before .before .before .before .before .before .before .before .before .before .before .before in
-    let o = c .before .before .before .before .before .before .before .before .before .before .before .before .run in
-    let h : length (o .result .trail) ≡ 32 = search needs in
-    found-scored (s .args .bytes .now) (s .pre .0) (s .args .setting) (bonds (s .args .bytes .now) - 1) (o .result) _ (s .args .memo .now) _ (c .before .before .before .before .before .before .before .before .before .before .before .before .before .before .before .before .before .before .before .before .before .before .zero .kept .0) (o .ensures) (c .before .before .before .before .before .before .before .if1 .taken) h _ refl (s .pre .2) refl refl (s .args .trail .now) _ (c .before .before .before .write .ensures)
+    let p = c .before .before .before .before .before .before .before in
+    let s = start (ran p) in
+    let o = ran p .run in
+    found-scored (s .args .bytes .now) (s .pre .0) (s .args .setting) (bonds (s .args .bytes .now) - 1) (o .result) _ (s .args .memo .now) _ (cleared (ran p) .zero .kept .0) (o .ensures) (p .if1 .taken) (whole (ran p)) _ refl (s .pre .2) refl refl (s .args .trail .now) _ (c .before .before .before .write .ensures)
 
 same-length-4 : tie.Need-same-length-4
 same-length-4 c = search needs
@@ -81,9 +95,10 @@ same-length-5 c = search needs
 
 returns-2 : tie.Need-returns-2
 returns-2 c =
-    let s = c .before .before .before .before .before .before .before .before .before .before .before .before .before .before .before .before .before .before .before .before .before .before .before in
-    let o = c .before .before .before .before .before .before .run in
-    found-eleven (s .args .bytes .now) (s .pre .0) (s .args .setting) (bonds (s .args .bytes .now) - 1) (o .result) _ (s .args .memo .now) _ (c .before .before .before .before .before .before .before .before .before .before .before .before .before .before .before .before .zero .kept .0) (o .ensures) (c .before .if1 .left) (s .args .trail .now) (c .if2 .taken)
+    let p = c .before .before .before .before .before .before in
+    let s = start p in
+    let o = p .run in
+    found-eleven (s .args .bytes .now) (s .pre .0) (s .args .setting) (bonds (s .args .bytes .now) - 1) (o .result) _ (s .args .memo .now) _ (cleared p .zero .kept .0) (o .ensures) (c .before .if1 .left) (s .args .trail .now) (c .if2 .taken)
 
 same-length-6 : tie.Need-same-length-6
 same-length-6 c = search needs
@@ -93,9 +108,10 @@ same-length-7 c = search needs
 
 returns-3 : tie.Need-returns-3
 returns-3 c =
-    let s = c .before .before .before .before .before .before .before .before .before .before .before .before .before .before .before .before .before .before .before .before .before .before .before in
-    let o = c .before .before .before .before .before .before .run in
-    found-twelve (s .args .bytes .now) (s .pre .0) (s .args .setting) (bonds (s .args .bytes .now) - 1) (o .result) _ (s .args .memo .now) _ (c .before .before .before .before .before .before .before .before .before .before .before .before .before .before .before .before .zero .kept .0) (o .ensures) (c .before .if1 .left) (s .args .trail .now) (c .if2 .left)
+    let p = c .before .before .before .before .before .before in
+    let s = start p in
+    let o = p .run in
+    found-twelve (s .args .bytes .now) (s .pre .0) (s .args .setting) (bonds (s .args .bytes .now) - 1) (o .result) _ (s .args .memo .now) _ (cleared p .zero .kept .0) (o .ensures) (c .before .if1 .left) (s .args .trail .now) (c .if2 .left)
 
 pub find-spec : {M : Type 1} → statement M
 find-spec =

@@ -10,7 +10,7 @@ use Rattle.canonize.specs.Strings.{collapse}
 use Rattle.canonize.specs.Inner.Slate.{slot}
 use Rattle.canonize.specs.Inner.Places.{Wrote}
 use Rattle.canonize.specs.Inner.Words.{stringsAt, centres}
-use Rattle.canonize.proofs.Putting.{Ends, Begun, begun-serves, begun-short, first-room, first-serves, second-room, ends-places, ends-wide, centres-begun}
+use Rattle.canonize.proofs.Putting.{OuterEnds, Begun, begun-serves, begun-short, first-room, first-serves, second-room, ends-places, ends-wide, centres-begun}
 use Rattle.canonize.proofs.Putting.{centres-label}
 use Rattle.canonize.proofs.peel.put_centres.Statement.{statement}
 use Rattle.canonize.proofs.peel.put_centres.Tie as tie
@@ -43,7 +43,7 @@ abbrev label : tie.Start → Bytes
 label s = centres (s .args .bytes .now) (s .args .s) (s .args .left) (slot (s .args .slate .now)) (s .args .i)
 
 ends : (c : tie.After-start)
-    → (let a = to-start c .args in Ends (a .bytes .now) (a .s) (a .left) (a .i) (a .k) (a .slate .now) (c .start .result))
+    → (let a = to-start c .args in OuterEnds (a .bytes .now) (a .s) (a .left) (a .i) (a .k) (a .slate .now) (c .start .result))
 ends c =
     let p = to-start c .pre in
     record { serves = p .3; left = p .6; small = omega (arith, p .0 .sized .few, p .2); high = p .4; within = p .5; at = c .start .ensures; fits = p .7 }

@@ -5,7 +5,7 @@ use mathlib.Core.Logic.{inl}
 use Prim.Native.Nat.{_-_}
 use native.Mathlib.Omega.{arith}
 use Rattle.canonize.proofs.Wrapping.{collapse-two, collapse-two-swapped}
-use Rattle.canonize.proofs.Writing.{Pair, pair-length, pair-next, pair-wrote, pair-whole}
+use Rattle.canonize.proofs.Writing.{TwoStrings, pair-length, pair-next, pair-wrote, pair-whole}
 use Rattle.canonize.proofs.peel.put_two.Statement.{statement}
 use Rattle.canonize.proofs.peel.put_two.Tie as tie
 
@@ -16,10 +16,10 @@ abbrev to-start-2 : tie.After-put-wrapped3 → tie.Start
 to-start-2 c = c .before .before .before .before .before .before .before .before
 
 -- the two parts in their order, and turned
-in-order : (s : tie.Start) → (let a = s .args in Pair (a .slate .now) (a .from) (a .middle - a .from) (a .middle) (a .end - a .middle) (a .place))
+in-order : (s : tie.Start) → (let a = s .args in TwoStrings (a .slate .now) (a .from) (a .middle - a .from) (a .middle) (a .end - a .middle) (a .place))
 in-order s = record { first = omega (arith, s .pre); second = omega (arith, s .pre); room = omega (arith, s .pre) }
 
-turned : (s : tie.Start) → (let a = s .args in Pair (a .slate .now) (a .middle) (a .end - a .middle) (a .from) (a .middle - a .from) (a .place))
+turned : (s : tie.Start) → (let a = s .args in TwoStrings (a .slate .now) (a .middle) (a .end - a .middle) (a .from) (a .middle - a .from) (a .place))
 turned s = record { first = omega (arith, s .pre); second = omega (arith, s .pre); room = omega (arith, s .pre) }
 
 sub-n : tie.Need-sub-n

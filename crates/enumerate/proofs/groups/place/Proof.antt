@@ -5,7 +5,7 @@ use Prim.Native.Nat.{ℕ, _+_, _-_, _*_, _<_}
 use native.Mathlib.Omega.{arith}
 use lib.ListN.{length, getD}
 use Rattle.canonize.specs.Inner.Slate.{kept}
-use Rattle.enumerate.specs.Inner.Grouped.{Outside, Leads, Moved}
+use Rattle.enumerate.specs.Inner.Grouped.{Outside, HintLeads, Moved}
 use Rattle.enumerate.proofs.Grouping.{placing-room, placing-last, placing-firsts, hinted, leads-group, Places, hint-places, order-places, new-places}
 use Rattle.enumerate.proofs.groups.place.Statement.{statement}
 use Rattle.enumerate.proofs.groups.place.Tie as tie
@@ -21,7 +21,7 @@ hint-in c = let p = entry c .pre in omega (arith, c .spread .ensures, p .5, p .3
 abbrev at-hint : tie.Then1 → tie.After-spread
 at-hint c = c .before .before .before .before .before .before
 
-leads-to : (c : tie.Then1) → Leads (entry (at-hint c) .args .bytes .now) (entry (at-hint c) .args .parts .now) (entry (at-hint c) .args .p)
+leads-to : (c : tie.Then1) → HintLeads (entry (at-hint c) .args .bytes .now) (entry (at-hint c) .args .parts .now) (entry (at-hint c) .args .p)
     (at-hint c .spread .result) (kept (entry (at-hint c) .args .slate .now))
 leads-to c = c .before .before .before .leads .ensures .0 (c .if1 .taken)
 

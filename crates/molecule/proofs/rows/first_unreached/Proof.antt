@@ -84,11 +84,15 @@ loop-holds c =
       scan-on (unreached r) (c .before .before .before .before .before .before .before .atoms .result) 0 (scan-start (unreached r) (c .before .before .before .before .before .before .before .atoms .result)) (omega (arith, k .sized .count)) (zero-reached r k),
     )
 
+-- the call's start, seen from the loop
+abbrev start : tie.At-loop Inv-loop μ-loop → tie.Start Inv-loop μ-loop
+start c = c .before .before .before .before .before .before .before .before .before .before
+
 mul-is-disjoint : tie.Need-mul-is-disjoint Inv-loop μ-loop
-mul-is-disjoint c = omega (arith, c .before .before .before .before .before .before .before .before .before .before .before .pre .sized .few, c .before .before .before .before .before .before .before .before .before .before .before .pre .sized .count)
+mul-is-disjoint c = omega (arith, start (c .before) .pre .sized .few, start (c .before) .pre .sized .count)
 
 array-read-is-disjoint : tie.Need-array-read-is-disjoint Inv-loop μ-loop
-array-read-is-disjoint c = omega (arith, c .before .before .before .before .before .before .before .before .before .before .before .pre .sized .few, c .before .before .before .before .before .before .before .before .before .before .before .pre .sized .count)
+array-read-is-disjoint c = omega (arith, start (c .before) .pre .sized .few, start (c .before) .pre .sized .count)
 
 is-disjoint-requires : tie.Need-is-disjoint-requires Inv-loop μ-loop
 is-disjoint-requires c κs = search needs
@@ -102,26 +106,26 @@ loop-less c = search needs
 -- the test at the atom that the scan stands at
 tested : (c : tie.After-is-disjoint Inv-loop μ-loop) → c .is-disjoint .result ≡ unreached (c .before .before .before .before .before .before .before .before .before .before .before .before .args .bytes .now) (c .before .before .loop .v)
 tested c =
-    let start = c .before .before .before .before .before .before .before .before .before .before .before .before in
+    let b = c .before .before .before .before .before .before .before .before .before .before .before .before in
     let l = c .before .before .loop in
-    rw (c .is-disjoint .ensures, l .inv .2, c .before .before .before .before .before .before .before .before .bonds-at .ensures, atoms-at (start .args .bytes .now) (l .v) (omega (arith, start .pre .sized .few, start .pre .sized .count, c .before .if1 .left)))
-    (by-bonds (start .args .bytes .now) (start .pre) (l .v) (omega arith))
+    rw (c .is-disjoint .ensures, l .inv .2, c .before .before .before .before .before .before .before .before .bonds-at .ensures, atoms-at (b .args .bytes .now) (l .v) (omega (arith, b .pre .sized .few, b .pre .sized .count, c .before .if1 .left)))
+    (by-bonds (b .args .bytes .now) (b .pre) (l .v) (omega arith))
 
 loop-again : tie.Need-loop-again Inv-loop μ-loop
 loop-again c =
     let l = c .before .before .before .loop in
-    (l .inv .0, omega arith, l .inv .2, scan-on (unreached (c .before .before .before .before .before .before .before .before .before .before .before .before .before .args .bytes .now)) _ (l .v) (l .inv .3) (c .before .before .if1 .left) (sym (tested (c .before)) ∙ c .if2 .left))
+    (l .inv .0, omega arith, l .inv .2, scan-on (unreached (start (c .before .before .before) .args .bytes .now)) _ (l .v) (l .inv .3) (c .before .before .if1 .left) (sym (tested (c .before)) ∙ c .if2 .left))
 
 returns : tie.Need-returns Inv-loop μ-loop
 returns c =
     let l = c .before .loop in
-    let r = c .before .before .before .before .before .before .before .before .before .before .before .args .bytes .now in
+    let r = start (c .before) .args .bytes .now in
     scan-none (unreached r) _ (l .v) (l .inv .3) (c .if1 .taken) ∙ ap (first (unreached r)) (l .inv .0)
 
 returns-2 : tie.Need-returns-2 Inv-loop μ-loop
 returns-2 c =
     let l = c .before .before .before .loop in
-    let r = c .before .before .before .before .before .before .before .before .before .before .before .before .before .args .bytes .now in
+    let r = start (c .before .before .before) .args .bytes .now in
     scan-found (unreached r) _ (l .v) (l .inv .3) (c .before .before .if1 .left) (sym (tested (c .before)) ∙ c .if2 .taken) ∙ ap (first (unreached r)) (l .inv .0)
 
 pub first-unreached-spec : {M : Type 1} → statement M

@@ -6,7 +6,7 @@ use native.Mathlib.Omega.{arith}
 use lib.ListN.{length}
 use Rattle.tabulate.specs.Inner.Noded.{Beside, ahead, Pairing}
 use Rattle.tabulate.proofs.Noding.{beside-same}
-use Rattle.tabulate.proofs.Meeting.{Walk, walk-first, walk-start, walk-turn, walk-done, walk-rounding, walk-beside, walk-less, walk-next, walk-over}
+use Rattle.tabulate.proofs.Meeting.{WalkedGroup, walk-first, walk-start, walk-turn, walk-done, walk-rounding, walk-beside, walk-less, walk-next, walk-over}
 use Rattle.tabulate.proofs.nodes.pair_group.Statement.{statement}
 use Rattle.tabulate.proofs.nodes.pair_group.Tie as tie
 
@@ -14,7 +14,7 @@ abbrev Inv-loop : tie.InvT-loop
 Inv-loop parts₀ p first done d₀ k₀ parts d k =
     Beside parts₀ parts p (done .nodes)
     × ((l nodes sets : List ℕ) → Pairing parts₀ p l nodes sets first (done .nodes) (done .matches)
-    → Walk parts₀ parts p l nodes sets (done .nodes) (done .nodes) (done .matches) (d .nodes) (d .matches) k)
+    → WalkedGroup parts₀ parts p l nodes sets (done .nodes) (done .nodes) (done .matches) (d .nodes) (d .matches) k)
 
 abbrev μ-loop : tie.MeasureT-loop
 μ-loop parts₀ p first done d₀ k₀ parts d k = ahead p k
@@ -24,7 +24,7 @@ abbrev entry : tie.In-loop Inv-loop μ-loop → tie.Start Inv-loop μ-loop
 entry c = c .before .before .before
 
 so-far : (c : tie.In-loop Inv-loop μ-loop) → let a = entry c .args in let f = entry c .pre in let w = c .before .loop in
-    Walk (a .parts .now) (w .parts) (a .p) (f .0) (f .1) (f .2) (a .done .nodes) (a .done .nodes) (a .done .matches) (w .d .nodes) (w .d .matches) (w .k)
+    WalkedGroup (a .parts .now) (w .parts) (a .p) (f .0) (f .1) (f .2) (a .done .nodes) (a .done .nodes) (a .done .matches) (w .d .nodes) (w .d .matches) (w .k)
 so-far c = let f = entry c .pre in c .before .loop .inv .1 (f .0) (f .1) (f .2) (f .3)
 
 -- the next index is that of a candidate

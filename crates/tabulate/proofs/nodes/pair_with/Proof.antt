@@ -4,17 +4,17 @@ use mathlib.Core.List.{List}
 use Prim.Native.Nat.{ℕ, _+_, _-_, _*_, _<_}
 use native.Mathlib.Omega.{arith}
 use lib.ListN.{length}
-use Rattle.tabulate.specs.Inner.Noded.{Beside, ahead, Rounding}
+use Rattle.tabulate.specs.Inner.Noded.{Beside, ahead, ToMeet}
 use Rattle.tabulate.proofs.Noding.{beside-same}
-use Rattle.tabulate.proofs.Meeting.{Round, round-start, round-turn, round-done, round-meeting, round-beside, round-less, round-next, round-over}
+use Rattle.tabulate.proofs.Meeting.{MetSome, round-start, round-turn, round-done, round-meeting, round-beside, round-less, round-next, round-over}
 use Rattle.tabulate.proofs.nodes.pair_with.Statement.{statement}
 use Rattle.tabulate.proofs.nodes.pair_with.Tie as tie
 
 abbrev Inv-loop : tie.InvT-loop
 Inv-loop parts₀ p i start d₀ k₀ parts d k =
     Beside parts₀ parts p (d₀ .nodes)
-    × ((l nodes sets : List ℕ) → Rounding parts₀ p l nodes sets i (d₀ .nodes) (d₀ .matches)
-    → Round parts₀ parts p l nodes sets i start (d₀ .nodes) (d₀ .matches) (d .nodes) (d .matches) k)
+    × ((l nodes sets : List ℕ) → ToMeet parts₀ p l nodes sets i (d₀ .nodes) (d₀ .matches)
+    → MetSome parts₀ parts p l nodes sets i start (d₀ .nodes) (d₀ .matches) (d .nodes) (d .matches) k)
 
 abbrev μ-loop : tie.MeasureT-loop
 μ-loop parts₀ p i start d₀ k₀ parts d k = ahead p k
@@ -28,7 +28,7 @@ abbrev entry : tie.In-loop Inv-loop μ-loop → tie.Start Inv-loop μ-loop
 entry c = c .before .before .before .before
 
 so-far : (c : tie.In-loop Inv-loop μ-loop) → let a = entry c .args in let f = entry c .pre in let w = c .before .loop in
-    Round (a .parts .now) (w .parts) (a .p) (f .0) (f .1) (f .2) (a .i) (a .start) (a .done .nodes) (a .done .matches) (w .d .nodes) (w .d .matches) (w .k)
+    MetSome (a .parts .now) (w .parts) (a .p) (f .0) (f .1) (f .2) (a .i) (a .start) (a .done .nodes) (a .done .matches) (w .d .nodes) (w .d .matches) (w .k)
 so-far c = let f = entry c .pre in c .before .loop .inv .1 (f .0) (f .1) (f .2) (f .3)
 
 -- the next index is that of a candidate
