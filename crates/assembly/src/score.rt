@@ -24,7 +24,8 @@ fn answer(
 ) -> Scored
     requires { ⌜ Admitted (now bytes) setting (loan (now trail) (now parts) (now pairs) (now memo) (now desk)) ⌝ }
     ensures { λ r. ⌜ AnswerTold (answerTo (now (bytes .entry)) setting
-        (loan (now (trail .entry)) (now (parts .entry)) (now (pairs .entry)) (now (memo .entry)) (now (desk .entry)))) r (now (trail .entry)) (now (trail .exit)) ⌝ }
+        (loan (now (trail .entry)) (now (parts .entry)) (now (pairs .entry)) (now (memo .entry)) (now (desk .entry))))
+        r (now (trail .entry)) (now (trail .exit)) ⌝ }
 {
     match build::build(bytes, parts, pairs) {
         Built::Count(n) => find::find(bytes, setting, trail, pairs, n, memo, desk),
@@ -45,7 +46,8 @@ fn answer_and_clear(
 ) -> Scored
     requires { ⌜ Admitted (now bytes) setting (loan (now trail) (now parts) (now pairs) (now memo) (now desk)) ⌝ }
     ensures told { λ r. ⌜ AnswerTold (answerTo (now (bytes .entry)) setting
-        (loan (now (trail .entry)) (now (parts .entry)) (now (pairs .entry)) (now (memo .entry)) (now (desk .entry)))) r (now (trail .entry)) (now (trail .exit)) ⌝ }
+        (loan (now (trail .entry)) (now (parts .entry)) (now (pairs .entry)) (now (memo .entry)) (now (desk .entry))))
+        r (now (trail .entry)) (now (trail .exit)) ⌝ }
     ensures cleared { λ r. ⌜ TablesZero
         (loan (now (trail .entry)) (now (parts .entry)) (now (pairs .entry)) (now (memo .entry)) (now (desk .entry)))
         (loan (now (trail .exit)) (now (parts .exit)) (now (pairs .exit)) (now (memo .exit)) (now (desk .exit))) ⌝ }

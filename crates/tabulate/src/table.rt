@@ -22,7 +22,8 @@ fn put(pairs: &mut [u64], m: usize, a: u64, b: u64)
 fn write_node(parts: &[u64], p: usize, x: usize, pairs: &mut [u64], m: usize) -> usize
     requires { ⌜ (x < p) × (9 * p ≤ length (now parts)) × (startIn (now parts) p x ≤ x) × (4 * (m + length (belowIn (now parts) p x)) ≤ length (now pairs)) ⌝ }
     ensures count { λ r. ⌜ r ≡ m + length (belowIn (now (parts .entry)) p x) ⌝ }
-    ensures holds { λ r. ⌜ now (pairs .exit) ≡ sets (now (pairs .entry)) (4 * m) (wordsOf (now (parts .entry)) (withEach x (belowIn (now (parts .entry)) p x))) ⌝ }
+    ensures holds { λ r. ⌜ now (pairs .exit) ≡ sets (now (pairs .entry)) (4 * m)
+        (wordsOf (now (parts .entry)) (withEach x (belowIn (now (parts .entry)) p x))) ⌝ }
 {
     let a = parts[x];
     let start = parts[8 * p + x] as usize;

@@ -53,7 +53,8 @@ pub record Branched (r : Bytes) (words : List ℕ) (bounds : ℕ) (s : State) (b
   pub after : s .next ≤ b .first
   pub within : b .first ≤ length (pairs r)
   pub tries : (setting : settings.Setting) (room : ℕ) → setting .bounds ≡ bounds
-      → tried r (pairs r) setting room (stateOf s) (search.removable r (pairs r) (stateOf s .pieces) (s .next)) best ≡ triedFrom r (pairs r) (stateOf s .pieces) (b .least) (b .first)
+      → tried r (pairs r) setting room (stateOf s) (search.removable r (pairs r) (stateOf s .pieces) (s .next)) best
+      ≡ triedFrom r (pairs r) (stateOf s .pieces) (b .least) (b .first)
 
 -- match m is removable in the state, which holds these pieces
 pub record Chooses (r : Bytes) (s : State) (held : List ℕ) (m : ℕ) : Type 0 where

@@ -1,4 +1,5 @@
--- The matches as the lent tables have them. In parts, with regions of p words: region 0 the nodes, 8 for each node the number of the first node of its group. In pairs four words a match: its two sets, their union and their size.
+-- The matches as the lent tables have them. In parts, with regions of p words: region 0 the nodes, 8 for each node the number of the
+-- first node of its group. In pairs four words a match: its two sets, their union and their size.
 use mathlib.Core.Path.{_≡_}
 use mathlib.Core.List.{List, [], _∷_, _++_}
 use Prim.Native.Nat.{ℕ, _+_, _*_, _≤_, _<_}

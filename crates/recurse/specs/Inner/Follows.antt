@@ -67,7 +67,8 @@ pub record MayStart (r : Bytes) (at touch words memo desk slate : List ℕ) (n :
 
 -- whether Int stops the state
 abbrev pub IntStops : ℕ → State → ℕ → Bool → Type 0
-IntStops bounds s best b = (r : Bytes) (ms : List Pair) (setting : Setting) (room : ℕ) → setting .bounds ≡ bounds → b ≡ search.intStops r ms setting room (stateOf s) best
+IntStops bounds s best b = (r : Bytes) (ms : List Pair) (setting : Setting) (room : ℕ)
+    → setting .bounds ≡ bounds → b ≡ search.intStops r ms setting room (stateOf s) best
 
 -- where the memo's answer leads a state that has been counted
 abbrev pub gateOf : Asked → Run → Gate

@@ -37,7 +37,8 @@ pub record Scanning (words : List ℕ) (ms : List Pair) (pieces own : List ℕ) 
 abbrev pub goes : List Pair → List ℕ → ℕ → Bool
 goes ms pieces m = inside pieces (pair ms m .h1) && inside pieces (pair ms m .h2)
 
--- what is told of the matches from next on that are removable: for each size the bonds in them, the largest size, and the number of the first, that of the matches where there is none
+-- what is told of the matches from next on that are removable: for each size the bonds in them, the largest size, and the number of
+-- the first, that of the matches where there is none
 pub record Told (ms : List Pair) (pieces : List ℕ) (next : ℕ) (masks : List ℕ) (size start : ℕ) : Type 0 where
   pub masked : (bytes : Bytes) (k : ℕ) → k < 33 → getD masks k 0 ≡ maskOf bytes ms (removable bytes ms pieces next) k
   pub largest : (bytes : Bytes) → size ≡ maxOf (sizeOf ms) (removable bytes ms pieces next)

@@ -91,7 +91,8 @@ ahead p (suc i) = p - i
 -- where k is 1 more than the index of a candidate, 0 for none, region 5 leads from it through these sets; the indices rise
 unfoldable pub LeadsThrough : List ℕ → ℕ → List ℕ → ℕ → List ℕ → Type 0
 LeadsThrough parts p l k [] = k ≡ 0
-LeadsThrough parts p l k (x ∷ xs) = (i : ℕ) × (k ≡ suc i) × (i < length l) × (x ≡ getD l i 0) × (ahead p (getD parts (5 * p + i) 0) < ahead p (suc i)) × LeadsThrough parts p l (getD parts (5 * p + i) 0) xs
+LeadsThrough parts p l k (x ∷ xs) = (i : ℕ) × (k ≡ suc i) × (i < length l) × (x ≡ getD l i 0)
+    × (ahead p (getD parts (5 * p + i) 0) < ahead p (suc i)) × LeadsThrough parts p l (getD parts (5 * p + i) 0) xs
 
 -- the groups, each from the index in region 4 on
 abbrev pub AllLead : List ℕ → ℕ → List ℕ → List Group → Type 0
@@ -141,6 +142,7 @@ pub record Groups (parts : List ℕ) (p : ℕ) (l nodes : List ℕ) (gs : List G
 pub record Grown (now : List ℕ) (p : ℕ) (l nodes : List ℕ) (gs : List Group) (r m : ℕ) : Type 0 where
   pub long : r ≤ p → r ≡ length (nodesOf nodes gs)
   pub noded : r ≤ p → Noded now p l (nodesOf nodes gs)
-  pub starts : r ≤ p → (k i : ℕ) → k < length gs → length (nodesOf nodes (take k gs)) ≤ i → i < length (nodesOf nodes (take (suc k) gs)) → getD now (8 * p + i) 0 ≡ length (nodesOf nodes (take k gs))
+  pub starts : r ≤ p → (k i : ℕ) → k < length gs → length (nodesOf nodes (take k gs)) ≤ i → i < length (nodesOf nodes (take (suc k) gs))
+      → getD now (8 * p + i) 0 ≡ length (nodesOf nodes (take k gs))
   pub matches : r ≤ p → m ≡ pairsIn gs
   pub over : p < r → p < length (nodesOf nodes gs)
