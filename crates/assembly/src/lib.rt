@@ -1,3 +1,4 @@
+#![tactic(auto)]
 // score (`index_search` of src/assembly.rs).
 pub use search::Setting;
 

@@ -360,10 +360,13 @@ members_ascend =
 
 -- ---- unions over a list
 
-pub unions_one : (f : ℕ → ℕ) (l : List ℕ) (i j : ℕ) → Memᴰ i l → bit (f i) j ≡ 1 → bit (unions f l) j ≡ 1
+unions_member : (f : ℕ → ℕ) (i : ℕ) (l : List ℕ) (j : ℕ) → Memᴰ i l → bit (f i) j ≡ 1 → bit (unions f l) j ≡ 1
 unfolding unions
-unions_one f l i j (Memᴰ.head {x = x} {xs = xs} e) h = omega (arith, bit-or (f x) (unions f xs) j, ap (λ (n : ℕ). bit (f n) j) e, bit_le (f x) j, bit_le (unions f xs) j)
-unions_one f l i j (Memᴰ.tail {x = x} {xs = xs} m) h = omega (arith, bit-or (f x) (unions f xs) j, unions_one f xs i j m h, bit_le (f x) j)
+unions_member f i l j (Memᴰ.head {x = x} {xs = xs} e) h = omega (arith, bit-or (f x) (unions f xs) j, ap (λ (n : ℕ). bit (f n) j) e, bit_le (f x) j, bit_le (unions f xs) j)
+unions_member f i l j (Memᴰ.tail {x = x} {xs = xs} m) h = omega (arith, bit-or (f x) (unions f xs) j, unions_member f i xs j m h, bit_le (f x) j)
+
+pub unions_one : (f : ℕ → ℕ) (l : List ℕ) (i j : ℕ) → Memᴰ i l → bit (f i) j ≡ 1 → bit (unions f l) j ≡ 1
+unions_one f l i j m h = unions_member f i l j m h
 
 pub unions_of : (f : ℕ → ℕ) (l : List ℕ) (j : ℕ) → bit (unions f l) j ≡ 1 → (i : ℕ) × Memᴰ i l × (bit (f i) j ≡ 1)
 unfolding unions

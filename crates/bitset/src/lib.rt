@@ -1,3 +1,4 @@
+#![tactic(auto)]
 // Sets of the numbers 0 to 63, each the digits of a u64: the Rust's BitSet. The contracts are by the definitions of
 // specs/Bits.antt, and proofs/Laws.antt and proofs/Members.antt have their laws.
 ghost use Rattle.std.specs.Prelude.{◌≡◌, ◌-◌, ◌^◌, ◌≤◌, ◌<◌};

@@ -1,3 +1,4 @@
+#![tactic(auto)]
 // The two bounds of the search (src/bounds.rs): J of Int (`int_bound`), and the least size that is tried (`least_size`).
 // The contracts are by the definitions of specs/Bounds.antt, and proofs/Bounds.antt has that both are bounds.
 ghost use Rattle.std.specs.Prelude.{◌≡◌, List, map, ℕ, ◌-◌, ◌≤◌, ◌<◌, length, get_or, take};

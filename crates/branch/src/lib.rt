@@ -1,3 +1,4 @@
+#![tactic(auto)]
 // The removals of a state that are tried, and the state after each (src/state.rs, `recurse_index_search` of src/assembly.rs).
 ghost use Rattle.std.specs.Prelude.{◌≡◌, ◌||◌, List, ℕ, ◌≤◌, ◌<◌, length, get_or, eqb};
 ghost use Rattle.bitset.specs.Bits.{Sub};

@@ -1,3 +1,4 @@
+#![tactic(auto)]
 // Labels of fragments: two fragments have equal labels exactly when an element- and bond-keeping isomorphism joins them.
 ghost use Rattle.std.specs.Prelude.{◌≡◌, not, ◌≤◌, length};
 ghost use Rattle.molecule.specs.Touch.{bonds_at_words};

@@ -1,3 +1,4 @@
+#![tactic(auto)]
 // The public calls as C functions: host/pazgelk.h declares them. A &[u8] is a pointer and then a length.
 ghost use Rattle.std.specs.Prelude.{◌≡◌, length};
 ghost use Rattle.molecule.specs.Check.{check, number, place};

@@ -1,3 +1,4 @@
+#![tactic(auto)]
 // Lent words and numbers left with zeros.
 ghost use Rattle.std.specs.Prelude.{◌≡◌, ◌≤◌, length, replicate};
 ghost use Rattle.clear.specs.Inner.Part.{zero_part};

@@ -1,3 +1,4 @@
+#![tactic(auto)]
 // The desk: for a set of bonds the hash of its label and a set that stands for it, kept in lent words so that labels are not computed again.
 ghost use Rattle.std.specs.Prelude.{◌≡◌, ◌<◌};
 ghost use Rattle.molecule.specs.Connected.{Own, Connected};

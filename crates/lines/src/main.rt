@@ -1,3 +1,4 @@
+#![tactic(auto)]
 // Reads a question a line, and answers each on a line.
 use canonize::compare;
 use libc::STDIN_FILENO;

@@ -1,3 +1,4 @@
+#![tactic(auto)]
 // The search's memo (src/memoize.rs): entries of 80 words in the lent table, found by a hash of the piece labels and settled by the labels.
 // An entry has sets that stand for its pieces (crate desk), so that most labels are settled by comparing sets. A state that asks first drafts
 // its own entry in 80 words. specs/Inner/Stored.antt has the layout.

@@ -1,3 +1,4 @@
+#![tactic(auto)]
 // Molecules without rings: the record of document 01, check, and the graph of a record's bonds.
 ghost use Rattle.std.specs.Prelude.{◌≡◌};
 ghost use Rattle.molecule.specs.Check.{check};

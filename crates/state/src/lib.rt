@@ -1,3 +1,4 @@
+#![tactic(auto)]
 // A state of the search by value (src/state.rs), and the pieces that a removal leaves.
 ghost use Rattle.std.specs.Prelude.{◌≡◌, List, ◌++◌, ℕ, ◌+◌, ◌-◌, ◌*◌, ◌^◌, ◌≤◌, ◌<◌, length, take, drop};
 ghost use Rattle.bitset.specs.Bits.{size, diff};

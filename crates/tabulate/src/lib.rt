@@ -1,3 +1,4 @@
+#![tactic(auto)]
 // The match table built in the lent tables: fragments that a molecule has twice (src/matches.rs).
 pub mod build;
 pub mod count;

@@ -7,47 +7,35 @@ use Rattle.clear.proofs.Zeros.{Zeroed, zeroed_length, zeroed_within, zeroed_next
 use Rattle.clear.proofs.zero.Statement.{statement}
 use Rattle.clear.proofs.zero.Tie as tie
 
-abbrev invariant-loop : tie.invariant-loop
+abbrev invariant-loop : tie.invariant-loop-i
 invariant-loop words₀ i₀ words i = Zeroed words₀ words i
 
-abbrev decreases-loop : tie.decreases-loop
+abbrev decreases-loop : tie.decreases-loop-i
 decreases-loop words₀ i₀ words i = length words₀ - i
 
-loop-holds : tie.Need-loop-init invariant-loop decreases-loop
-loop-holds c = search rules
+loop-i-init : tie.Need-loop-i-init invariant-loop decreases-loop
+loop-i-init c = search rules
 
-mul_words : tie.Need-overflow-mul-words invariant-loop decreases-loop
-mul_words c = scaled_Fits _ _ 8 (zeroed_within _ _ _ c.before.loop.invariant c.loop-test.true) c.before.before.well-formed.0.1
+offset_bounds-words-i : tie.Need-offset_bounds-words-i invariant-loop decreases-loop
+offset_bounds-words-i c = scaled_Fits _ _ 8 (zeroed_within _ _ _ c.before.loop-i.invariant c.loop-i-test.true) c.before.before.well_formed.0.1
 
-slice-write-words : tie.Need-slice-write-words invariant-loop decreases-loop
-slice-write-words c = c.loop-test.true
+bounds-words-i : tie.Need-bounds-words-i invariant-loop decreases-loop
+bounds-words-i c = c.loop-i-test.true
 
-add-i : tie.Need-overflow-add-i invariant-loop decreases-loop
-add-i c = omega arith
+overflow_add-i : tie.Need-overflow_add-i invariant-loop decreases-loop
+overflow_add-i c = omega arith
 
-loop-less : tie.Need-loop-smaller invariant-loop decreases-loop
-loop-less c = omega (arith, zeroed_within _ _ _ c.before.loop.invariant c.loop-test.true)
+loop-i-smaller : tie.Need-loop-i-smaller invariant-loop decreases-loop
+loop-i-smaller c = omega (arith, zeroed_within _ _ _ c.before.loop-i.invariant c.loop-i-test.true)
 
-loop-again : tie.Need-loop-preserved invariant-loop decreases-loop
-loop-again c = zeroed_next _ _ _ c.before.loop.invariant c.loop-test.true
+loop-i-preserved : tie.Need-loop-i-preserved invariant-loop decreases-loop
+loop-i-preserved c = zeroed_next _ _ _ c.before.loop-i.invariant c.loop-i-test.true
 
-same_length : tie.Need-same-length invariant-loop decreases-loop
-same_length c = zeroed_length _ _ _ c.before.loop.invariant
+shape_of-words : tie.Need-shape_of-words invariant-loop decreases-loop
+shape_of-words c = zeroed_length _ _ _ c.before.loop-i.invariant
 
 returns : tie.Need-returns invariant-loop decreases-loop
-returns c = zeroed_all _ _ _ c.before.loop.invariant c.loop-test.false
+returns c = zeroed_all _ _ _ c.before.loop-i.invariant c.loop-i-test.false
 
-pub zero-spec : {M : Type 1} → statement M
-zero-spec =
-    tie.close
-    (tie.spec
-    invariant-loop
-    decreases-loop
-    loop-holds
-    mul_words
-    slice-write-words
-    add-i
-    loop-less
-    loop-again
-    same_length
-    returns)
+pub zero_spec : {M : Type 1} → statement M
+zero_spec = tie.close (tie.spec invariant-loop decreases-loop loop-i-init offset_bounds-words-i bounds-words-i overflow_add-i loop-i-smaller loop-i-preserved shape_of-words returns)
