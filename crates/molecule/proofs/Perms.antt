@@ -73,6 +73,7 @@ bool_iff false false f g = refl
 
 -- a list with a member is not empty
 pub mem_some : {A : Type 0} {x : A} (l : List A) → Mem x l → 1 ≤ length l
+mem_some {A = A} [] i = elim i [ ]
 mem_some (z ∷ l) i = omega arith
 
 module _ {A : Type 0} where
@@ -93,6 +94,7 @@ module _ {A : Type 0} where
   perm_length (p_trans d g) = perm_length d ∙ perm_length g
 
   pub perm_mem : {x : A} {k l : List A} → Perm k l → Mem x k → Mem x l
+  perm_mem p_nil m = elim m [ ]
   perm_mem (p_cons e d) (m_head h) = m_head (h ∙ e)
   perm_mem (p_cons e d) (m_tail m) = m_tail (perm_mem d m)
   perm_mem (p_swap e g) (m_head h) = m_tail (m_head (h ∙ e))
@@ -114,6 +116,7 @@ module _ {A : Type 0} where
   distinct_right (x ∷ k) l d = distinct_right k l d.1
 
   pub distinct_apart : (k l : List A) {x : A} → Distinct (k ++ l) → Mem x k → Mem x l → ⊥
+  distinct_apart [] l d x5 n = elim x5 [ ]
   distinct_apart (y ∷ k) l d (m_head e) n = d.0 (mem_right k (mem_cast (sym e) n))
   distinct_apart (y ∷ k) l d (m_tail m) n = distinct_apart k l d.1 m n
 
@@ -181,6 +184,7 @@ module _ {A : Type 0} (p : A → Bool) where
   keep_perm (p_trans d g) = p_trans (keep_perm d) (keep_perm g)
 
   pub keep_mem : {x : A} (l : List A) → Mem x (filter p l) → Mem x l × (p x ≡ true)
+  keep_mem {x = x} [] m = elim m [ ]
   keep_mem {x} (y ∷ l) m = go (two (p y)) m (λ n. keep_mem l n)
     where
       at : Mem x (y ∷ filter p l) → (p y ≡ true) → (Mem x (filter p l) → Mem x l × (p x ≡ true)) → Mem x (y ∷ l) × (p x ≡ true)
@@ -192,6 +196,7 @@ module _ {A : Type 0} (p : A → Bool) where
       go (inr h) n f = let (a, b) = f (rw h at n) in (m_tail a, b)
 
   pub keep_intro : {x : A} (l : List A) → Mem x l → p x ≡ true → Mem x (filter p l)
+  keep_intro {x = x} [] x3 h = elim x3 [ ]
   keep_intro (y ∷ l) (m_head e) h = rw (sym (ap p e) ∙ h) (m_head e)
   keep_intro {x} (y ∷ l) (m_tail m) h = go (two (p y)) (keep_intro l m h)
     where
@@ -267,6 +272,7 @@ perm_nil {ys = ys} d = go ys d
 
 -- a list without repetition is no longer than one that holds its elements
 pub mem_out : {A : Type 0} {x : A} (l : List A) → Mem x l → (r : List A) × Out x l r
+mem_out {A = A} [] x'' = elim x'' [ ]
 mem_out (y ∷ l) (m_head e) = (l, first e)
 mem_out (y ∷ l) (m_tail m) = let (r, o) = mem_out l m in (y ∷ r, later o)
 

@@ -88,6 +88,8 @@ members_split s t h =
 
 -- a list of one element that has x
 pub only : {A : Type 0} (l : List A) {x : A} → length l ≡ 1 → Mem x l → l ≡ x ∷ []
+only {A = A} [] e m = elim m [ ]
+only {A = A} (y ∷ []) e (mathlib.Core.List.Memᴰ.tail x13) = elim x13 [ ]
 only (y ∷ []) e (m_head h) = ap (λ z. z ∷ []) (sym h)
 only (y ∷ z ∷ l) e m = absurd (omega arith)
 

@@ -10,36 +10,26 @@ use Rattle.molecule.proofs.fields.bonds.Reads as bonds-reads
 atoms-requires : tie.Need-atoms-requires
 atoms-requires c κs = search rules
 
-add-result : tie.Need-overflow-add-result
-add-result c = search rules
+overflow_add-result : tie.Need-overflow_add-result
+overflow_add-result c = search rules
 
 bonds-requires : tie.Need-bonds-requires
 bonds-requires c κs = search rules
 
-mul-result : tie.Need-overflow-mul-result
-mul-result c = search rules
+overflow_mul-result : tie.Need-overflow_mul-result
+overflow_mul-result c = search rules
 
-add-result-2 : tie.Need-overflow-add-result-2
-add-result-2 c = search rules
+overflow_add-result-2 : tie.Need-overflow_add-result-2
+overflow_add-result-2 c = search rules
 
-add-result-3 : tie.Need-overflow-add-result-3
-add-result-3 c = search rules
+overflow_add-result-3 : tie.Need-overflow_add-result-3
+overflow_add-result-3 c = search rules
 
-shared-slice-read-result : tie.Need-shared-slice-read-result
-shared-slice-read-result c = search rules
+bounds-bytes-atoms : tie.Need-bounds-bytes-atoms
+bounds-bytes-atoms c = search rules
 
 returns : tie.Need-returns
 returns c = cc
 
-pub code-spec : {M : Type 1} → statement M
-code-spec =
-    tie.close
-    (tie.spec
-    atoms-requires
-    add-result
-    bonds-requires
-    mul-result
-    add-result-2
-    add-result-3
-    shared-slice-read-result
-    returns)
+pub code_spec : {M : Type 1} → statement M
+code_spec = tie.close (tie.spec atoms-requires overflow_add-result bonds-requires overflow_mul-result overflow_add-result-2 overflow_add-result-3 bounds-bytes-atoms returns)

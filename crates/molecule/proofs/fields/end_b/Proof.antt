@@ -10,17 +10,17 @@ use Rattle.molecule.proofs.fields.wide.Reads as wide-reads
 atoms-requires : tie.Need-atoms-requires
 atoms-requires c κs = search rules
 
-add_wide : tie.Need-overflow-add-wide
-add_wide c = search rules
+overflow_add-atoms : tie.Need-overflow_add-atoms
+overflow_add-atoms c = search rules
 
-mul_wide : tie.Need-overflow-mul-wide
-mul_wide c = search rules
+overflow_mul-i : tie.Need-overflow_mul-i
+overflow_mul-i c = search rules
 
-add-wide-2 : tie.Need-overflow-add-wide-2
-add-wide-2 c = search rules
+overflow_add-atoms-2 : tie.Need-overflow_add-atoms-2
+overflow_add-atoms-2 c = search rules
 
-shared-slice-read-wide : tie.Need-shared-slice-read-wide
-shared-slice-read-wide c = search rules
+bounds-bytes-atoms : tie.Need-bounds-bytes-atoms
+bounds-bytes-atoms c = search rules
 
 wide-requires : tie.Need-wide-requires
 wide-requires c κs = search rules
@@ -28,14 +28,5 @@ wide-requires c κs = search rules
 returns : tie.Need-returns
 returns c = cc
 
-pub end-b-spec : {M : Type 1} → statement M
-end-b-spec =
-    tie.close
-    (tie.spec
-    atoms-requires
-    add_wide
-    mul_wide
-    add-wide-2
-    shared-slice-read-wide
-    wide-requires
-    returns)
+pub end_b_spec : {M : Type 1} → statement M
+end_b_spec = tie.close (tie.spec atoms-requires overflow_add-atoms overflow_mul-i overflow_add-atoms-2 bounds-bytes-atoms wide-requires returns)

@@ -4,15 +4,15 @@ use Rattle.molecule.specs.Touch.{around}
 use Rattle.molecule.proofs.graph.around.Statement.{statement}
 use Rattle.molecule.proofs.graph.around.Tie as tie
 
-next-to-requires : tie.Need-next-to-requires
-next-to-requires c κs = search rules
+next_to-requires : tie.Need-next_to-requires
+next_to-requires c κs = search rules
 
 difference-requires : tie.Need-difference-requires
 difference-requires c κs = search rules
 
 returns : tie.Need-returns
 unfolding around
-returns c = rw (c.difference.ensures, c.before.next-to.ensures)
+returns c = rw (c.difference.ensures, c.before.next_to.ensures)
 
-pub around-spec : {M : Type 1} → statement M
-around-spec = tie.close (tie.spec next-to-requires difference-requires returns)
+pub around_spec : {M : Type 1} → statement M
+around_spec = tie.close (tie.spec next_to-requires difference-requires returns)

@@ -16,5 +16,5 @@ reach-requires c κs = search rules
 returns : tie.Need-returns
 returns c = cc
 
-pub component-spec : {M : Type 1} → statement M
-component-spec = tie.close (tie.spec single-requires reach-requires returns)
+pub component_spec : {M : Type 1} → statement M
+component_spec = tie.close (tie.spec single-requires reach-requires returns)

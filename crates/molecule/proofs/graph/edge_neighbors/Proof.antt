@@ -16,35 +16,35 @@ use Rattle.molecule.proofs.fields.end_a.Reads as end-a-reads
 use Rattle.molecule.proofs.fields.end_b.Reads as end-b-reads
 
 -- both ends are among the 65 atom numbers
-few : (c : tie.After-end-b) → (c.before.end-a.result < 65) × (c.end-b.result < 65)
+few : (c : tie.After-end_b-v) → (c.end_a-u.result < 65) × (c.end_b-v.result < 65)
 few c =
-    let start = c.before.before.before in
+    let start = c in
     let w = end_few start.args.bytes.now start.args.i start.requires.0 start.requires.2 in
-    (rw c.before.end-a.ensures w.0, rw c.end-b.ensures w.1)
+    (rw c.end_a-u.ensures w.0, rw c.end_b-v.ensures w.1)
 
-end-a-requires : tie.Need-end-a-requires
-end-a-requires c κs = search rules
+end_a-u-requires : tie.Need-end_a-u-requires
+end_a-u-requires c κs = search rules
 
-end-b-requires : tie.Need-end-b-requires
-end-b-requires c κs = search rules
+end_b-v-requires : tie.Need-end_b-v-requires
+end_b-v-requires c κs = search rules
 
-mul-union : tie.Need-overflow-mul-union
-mul-union c = omega (arith, (few c).0)
+offset_bounds-at-u : tie.Need-offset_bounds-at-u
+offset_bounds-at-u c = omega (arith, (few c).0)
 
-element-copy-out-union : tie.Need-element-copy-out-union
-element-copy-out-union c = (few c).0
+bounds-at-u : tie.Need-bounds-at-u
+bounds-at-u c = (few c.before).0
 
-mul-union-2 : tie.Need-overflow-mul-union-2
-mul-union-2 c = omega (arith, (few c.before).1)
+offset_bounds-at-v : tie.Need-offset_bounds-at-v
+offset_bounds-at-v c = omega (arith, (few c.before.before).1)
 
-element-copy-out-union-2 : tie.Need-element-copy-out-union-2
-element-copy-out-union-2 c = (few c.before).1
+bounds-at-v : tie.Need-bounds-at-v
+bounds-at-v c = (few c.before.before).1
 
 union-requires : tie.Need-union-requires
 union-requires c κs = search rules
 
-cast-single : tie.Need-overflow-cast-single
-cast-single c = search rules
+overflow_cast-i : tie.Need-overflow_cast-i
+overflow_cast-i c = search rules
 
 single-requires : tie.Need-single-requires
 single-requires c κs = search rules
@@ -55,23 +55,10 @@ difference-requires c κs = search rules
 returns : tie.Need-returns
 unfolding touching
 returns c =
-    let start = c.before.before.before.before.before.before.before.before in
+    let start = c in
     let r = start.args.bytes.now in
     let w = end_few r start.args.i start.requires.0 start.requires.2 in
-    rw (c.difference.ensures, c.before.before.union.ensures, c.before.single.ensures, start.requires.1, c.before.before.before.before.before.before.end-a.ensures, c.before.before.before.before.before.end-b.ensures, atoms_at r _ w.0, atoms_at r _ w.1)
+    rw (c.difference.ensures, c.union.ensures, c.single.ensures, start.requires.1, c.end_a-u.ensures, c.end_b-v.ensures, atoms_at r _ w.0, atoms_at r _ w.1)
 
-pub edge-neighbors-spec : {M : Type 1} → statement M
-edge-neighbors-spec =
-    tie.close
-    (tie.spec
-    end-a-requires
-    end-b-requires
-    mul-union
-    element-copy-out-union
-    mul-union-2
-    element-copy-out-union-2
-    union-requires
-    cast-single
-    single-requires
-    difference-requires
-    returns)
+pub edge_neighbors_spec : {M : Type 1} → statement M
+edge_neighbors_spec = tie.close (tie.spec end_a-u-requires end_b-v-requires offset_bounds-at-u bounds-at-u offset_bounds-at-v bounds-at-v union-requires overflow_cast-i single-requires difference-requires returns)

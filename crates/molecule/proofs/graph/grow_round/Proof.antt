@@ -6,8 +6,8 @@ use Rattle.molecule.proofs.Rounds.{frontier_round}
 use Rattle.molecule.proofs.graph.grow_round.Statement.{statement}
 use Rattle.molecule.proofs.graph.grow_round.Tie as tie
 
-next-to-requires : tie.Need-next-to-requires
-next-to-requires c κs = search rules
+next_to-requires : tie.Need-next_to-requires
+next_to-requires c κs = search rules
 
 common-requires : tie.Need-common-requires
 common-requires c κs = search rules
@@ -18,8 +18,8 @@ union-requires c κs = search rules
 returns : tie.Need-returns
 returns c =
     let a = c.before.before.before.args in
-    rw (c.union.ensures, c.before.common.ensures, c.before.before.next-to.ensures)
+    rw (c.union.ensures, c.before.common.ensures, c.before.before.next_to.ensures)
     (frontier_round (λ (i : ℕ). get_or a.touch.now i 0) a.s a.part a.last c.before.before.before.requires)
 
-pub grow-round-spec : {M : Type 1} → statement M
-grow-round-spec = tie.close (tie.spec next-to-requires common-requires union-requires returns)
+pub grow_round_spec : {M : Type 1} → statement M
+grow_round_spec = tie.close (tie.spec next_to-requires common-requires union-requires returns)

@@ -9,9 +9,9 @@ use Rattle.molecule.proofs.graph.is_connected.Lts as lts
 use Rattle.bitset.proofs.lowest.Reads as lowest-reads
 use Rattle.molecule.proofs.graph.component.Reads as component-reads
 
-returns : tie.Need-returns
+returns-then-s-eq0 : tie.Need-returns-then-s-eq0
 unfolding is_part
-returns c = rw (eq-eqb _ _ c.if1.true)
+returns-then-s-eq0 c = rw (eq-eqb _ _ c.if-s-eq0.true)
 
 lowest-requires : tie.Need-lowest-requires
 lowest-requires c κs = search rules
@@ -19,9 +19,9 @@ lowest-requires c κs = search rules
 component-requires : tie.Need-component-requires
 component-requires c κs = search rules
 
-returns-2 : tie.Need-returns-2
+returns : tie.Need-returns
 unfolding is_part
-returns-2 c = rw (ne_eqb _ _ c.before.before.if1.false, c.component.ensures, c.before.lowest.ensures.is)
+returns c = rw (ne_eqb _ _ c.before.before.if-s-eq0.false, c.component.ensures, c.before.lowest.ensures.is)
 
-pub is-connected-spec : {M : Type 1} → statement M
-is-connected-spec = tie.close (tie.spec returns lowest-requires component-requires returns-2)
+pub is_connected_spec : {M : Type 1} → statement M
+is_connected_spec = tie.close (tie.spec returns-then-s-eq0 lowest-requires component-requires returns)

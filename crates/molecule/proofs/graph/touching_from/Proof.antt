@@ -8,57 +8,44 @@ use Rattle.molecule.proofs.Words.{BondsUpTo, bonds_next, bonds_are}
 use Rattle.molecule.proofs.graph.touching_from.Statement.{statement}
 use Rattle.molecule.proofs.graph.touching_from.Tie as tie
 
-abbrev invariant-loop : tie.invariant-loop
+abbrev invariant-loop : tie.invariant-loop-i
 invariant-loop bytes at n touch₀ i₀ touch i = (i ≤ n) × (n ≡ bonds bytes) × BondsUpTo bytes i touch
 
-abbrev decreases-loop : tie.decreases-loop
+abbrev decreases-loop : tie.decreases-loop-i
 decreases-loop bytes at n touch₀ i₀ touch i = n - i
 
-bonds-requires : tie.Need-bonds-requires invariant-loop decreases-loop
-bonds-requires c κs = omega arith
+bonds-n-requires : tie.Need-bonds-n-requires invariant-loop decreases-loop
+bonds-n-requires c κs = omega arith
 
-loop-holds : tie.Need-loop-init invariant-loop decreases-loop
-loop-holds c = (omega arith, c.bonds.ensures.0, record { long = refl; each = λ j h. absurd (omega arith); rest = λ j h. zeros_at 64 j })
+loop-i-init : tie.Need-loop-i-init invariant-loop decreases-loop
+loop-i-init c = (omega arith, c.bonds-n.ensures.0, record { long = refl; each = λ j h. absurd (omega arith); rest = λ j h. zeros_at 64 j })
 
-edge-neighbors-requires : tie.Need-edge-neighbors-requires invariant-loop decreases-loop
-edge-neighbors-requires c κs = (c.before.before.before.before.requires.0, c.before.before.before.before.requires.1, omega arith)
+edge_neighbors-requires : tie.Need-edge_neighbors-requires invariant-loop decreases-loop
+edge_neighbors-requires c κs = (c.before.before.before.before.requires.0, c.before.before.before.before.requires.1, omega arith)
 
-mul-touch : tie.Need-overflow-mul-touch invariant-loop decreases-loop
-mul-touch c = omega (arith, c.before.before.before.before.before.requires.0.sized.few)
+offset_bounds-touch-i : tie.Need-offset_bounds-touch-i invariant-loop decreases-loop
+offset_bounds-touch-i c = omega (arith, c.before.before.before.before.before.requires.0.sized.few)
 
-array-write-touch : tie.Need-array-write-touch invariant-loop decreases-loop
-array-write-touch c = omega (arith, c.before.before.before.before.before.requires.0.sized.few)
+bounds-touch-i : tie.Need-bounds-touch-i invariant-loop decreases-loop
+bounds-touch-i c = omega (arith, c.before.before.before.before.before.requires.0.sized.few)
 
-add-i : tie.Need-overflow-add-i invariant-loop decreases-loop
-add-i c = omega (arith, c.before.before.before.before.before.requires.0.sized.few)
+overflow_add-i : tie.Need-overflow_add-i invariant-loop decreases-loop
+overflow_add-i c = omega (arith, c.before.before.before.before.before.requires.0.sized.few)
 
-loop-less : tie.Need-loop-smaller invariant-loop decreases-loop
-loop-less c = omega arith
+loop-i-smaller : tie.Need-loop-i-smaller invariant-loop decreases-loop
+loop-i-smaller c = omega arith
 
-loop-again : tie.Need-loop-preserved invariant-loop decreases-loop
-loop-again c =
-    let l = c.before.before.loop in
-    (omega arith, l.invariant.1, bonds_next c.before.before.before.before.before.args.bytes.now l.i l.touch c.edge-neighbors.result l.invariant.2 (omega (arith, c.before.before.before.before.before.requires.0.sized.few)) c.edge-neighbors.ensures)
+loop-i-preserved : tie.Need-loop-i-preserved invariant-loop decreases-loop
+loop-i-preserved c =
+    let l = c.before.before.loop-i in
+    (omega arith, l.invariant.1, bonds_next c.before.before.before.before.before.args.bytes.now l.i l.touch c.edge_neighbors.result l.invariant.2 (omega (arith, c.before.before.before.before.before.requires.0.sized.few)) c.edge_neighbors.ensures)
 
 returns : tie.Need-returns invariant-loop decreases-loop
 returns c =
-    let l = c.before.loop in
+    let l = c.before.loop-i in
     let r = c.before.before.before.before.args.bytes.now in
     let e : l.i ≡ bonds r = omega arith in
     bonds_are r l.touch (rw e at l.invariant.2)
 
-pub touching-from-spec : {M : Type 1} → statement M
-touching-from-spec =
-    tie.close
-    (tie.spec
-    invariant-loop
-    decreases-loop
-    bonds-requires
-    loop-holds
-    edge-neighbors-requires
-    mul-touch
-    array-write-touch
-    add-i
-    loop-less
-    loop-again
-    returns)
+pub touching_from_spec : {M : Type 1} → statement M
+touching_from_spec = tie.close (tie.spec invariant-loop decreases-loop bonds-n-requires loop-i-init edge_neighbors-requires offset_bounds-touch-i bounds-touch-i overflow_add-i loop-i-smaller loop-i-preserved returns)

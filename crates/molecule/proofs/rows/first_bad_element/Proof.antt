@@ -17,8 +17,8 @@ use Rattle.molecule.proofs.rows.first_bad_element.Tie as tie
 atoms-requires : tie.Need-atoms-requires
 atoms-requires c κs = search rules
 
-first-bad-requires : tie.Need-first-bad-requires
-first-bad-requires c κs = search rules
+first_bad-requires : tie.Need-first_bad-requires
+first_bad-requires c κs = search rules
 
 -- of a byte, above 254 is 255
 above : (e : ℕ) → e < 256 → wrong_beyond 254 e ≡ wrong_element e
@@ -32,8 +32,8 @@ returns : tie.Need-returns
 unfolding bad_element bad_beyond
 returns c =
     let r = c.before.before.before.args.bytes.now in
-    c.first-bad.ensures ∙ rw c.before.atoms.ensures.0
-    (first_cong _ (bad_element r) (atoms r) (λ i h. above (element r i) (omega (arith, c.before.before.shared-slice-known.given (2 + i)))))
+    c.first_bad.ensures ∙ rw c.before.atoms.ensures.0
+    (first_cong _ (bad_element r) (atoms r) (λ i h. above (element r i) (omega (arith, c.before.before.shared_slice_known-1.given (2 + i)))))
 
-pub first-bad-element-spec : {M : Type 1} → statement M
-first-bad-element-spec = tie.close (tie.spec atoms-requires first-bad-requires returns)
+pub first_bad_element_spec : {M : Type 1} → statement M
+first_bad_element_spec = tie.close (tie.spec atoms-requires first_bad-requires returns)

@@ -41,113 +41,92 @@ zero_reached : (r : Bytes) → Formed r → unreached r 0 ≡ false
 unfolding unreached
 zero_reached r k = rw (reached_zero r k)
 
-abbrev invariant-loop : tie.invariant-loop
+abbrev invariant-loop : tie.invariant-loop-v
 invariant-loop bytes a n at reached v₀ v = (a ≡ atoms bytes) × (1 ≤ v) × (reached ≡ from_zero bytes) × Scanned (unreached bytes) a v
 
-abbrev decreases-loop : tie.decreases-loop
+abbrev decreases-loop : tie.decreases-loop-v
 decreases-loop bytes a n at reached v₀ v = a - v
 
-atoms-requires : tie.Need-atoms-requires invariant-loop decreases-loop
-atoms-requires c κs = omega (arith, c.before.requires.sized.long)
+atoms-a-requires : tie.Need-atoms-a-requires invariant-loop decreases-loop
+atoms-a-requires c κs = omega (arith, c.before.requires.sized.long)
 
-bonds-requires : tie.Need-bonds-requires invariant-loop decreases-loop
-bonds-requires c κs = omega (arith, c.before.before.requires.sized.long)
+bonds-n-requires : tie.Need-bonds-n-requires invariant-loop decreases-loop
+bonds-n-requires c κs = omega (arith, c.before.before.requires.sized.long)
 
-bonds-at-requires : tie.Need-bonds-at-requires invariant-loop decreases-loop
-bonds-at-requires c κs = c.before.before.before.requires
+bonds_at-at-requires : tie.Need-bonds_at-at-requires invariant-loop decreases-loop
+bonds_at-at-requires c κs = c.before.before.before.requires
 
-touching-from-requires : tie.Need-touching-from-requires invariant-loop decreases-loop
-touching-from-requires c κs = (c.before.before.before.before.before.requires, c.before.bonds-at.ensures)
+touching_from-touch-requires : tie.Need-touching_from-touch-requires invariant-loop decreases-loop
+touching_from-touch-requires c κs = (c.before.before.before.before.before.requires, c.before.bonds_at-at.ensures)
 
-cast-first-n : tie.Need-overflow-cast-first-n invariant-loop decreases-loop
-cast-first-n c = search rules
+overflow_cast-n : tie.Need-overflow_cast-n invariant-loop decreases-loop
+overflow_cast-n c = search rules
 
-first-n-requires : tie.Need-first-n-requires invariant-loop decreases-loop
-first-n-requires c κs = search rules
+first_n-requires : tie.Need-first_n-requires invariant-loop decreases-loop
+first_n-requires c κs = search rules
 
-array-read-reach : tie.Need-array-read-reach invariant-loop decreases-loop
-array-read-reach c = search rules
+bounds-at-0 : tie.Need-bounds-at-0 invariant-loop decreases-loop
+bounds-at-0 c = search rules
 
-reach-requires : tie.Need-reach-requires invariant-loop decreases-loop
-reach-requires c κs = search rules
+reach-reached-requires : tie.Need-reach-reached-requires invariant-loop decreases-loop
+reach-reached-requires c κs = search rules
 
-loop-holds : tie.Need-loop-init invariant-loop decreases-loop
-loop-holds c =
+loop-v-init : tie.Need-loop-v-init invariant-loop decreases-loop
+loop-v-init c =
     let start = c.before.before.before.before.before.before.before.before.before in
     let r = start.args.bytes.now in
     let k = start.requires in
-    let e : c.before.before.before.before.before.before.before.atoms.result ≡ atoms r = c.before.before.before.before.before.before.before.atoms.ensures.0 in
-    let all : c.before.first-n.result ≡ all_bonds r = c.before.first-n.ensures ∙ ap (λ (n : ℕ). 2 ^ n - 1) c.before.before.before.before.before.before.bonds.ensures.0 in (
+    let e : c.before.before.before.before.before.before.before.atoms-a.result ≡ atoms r = c.before.before.before.before.before.before.before.atoms-a.ensures.0 in
+    let all : c.before.first_n.result ≡ all_bonds r = c.before.first_n.ensures ∙ ap (λ (n : ℕ). 2 ^ n - 1) c.before.before.before.before.before.before.bonds-n.ensures.0 in (
       e,
       omega arith,
-      rw (c.reach.ensures, c.before.before.before.touching-from.ensures, c.before.before.before.before.before.bonds-at.ensures, all, atoms_at r 0 (omega arith)) (reach_words r k.sized.few (all_bonds r) (bonds_at r 0) (omega (arith, pow_pos (bonds r))) (at_own r 0)),
-      scan_on (unreached r) c.before.before.before.before.before.before.before.atoms.result 0 (scan_start (unreached r) c.before.before.before.before.before.before.before.atoms.result) (omega (arith, k.sized.count)) (zero_reached r k),
+      rw (c.reach-reached.ensures, c.before.before.before.touching_from-touch.ensures, c.before.before.before.before.before.bonds_at-at.ensures, all, atoms_at r 0 (omega arith)) (reach_words r k.sized.few (all_bonds r) (bonds_at r 0) (omega (arith, pow_pos (bonds r))) (at_own r 0)),
+      scan_on (unreached r) c.before.before.before.before.before.before.before.atoms-a.result 0 (scan_start (unreached r) c.before.before.before.before.before.before.before.atoms-a.result) (omega (arith, k.sized.count)) (zero_reached r k),
     )
 
 -- the call's start, seen from the loop
-abbrev start : tie.At-loop invariant-loop decreases-loop → tie.Start invariant-loop decreases-loop
+abbrev start : tie.At-loop-v invariant-loop decreases-loop → tie.Start invariant-loop decreases-loop
 start c = c.before.before.before.before.before.before.before.before.before.before
 
-mul-is-disjoint : tie.Need-overflow-mul-is-disjoint invariant-loop decreases-loop
-mul-is-disjoint c = omega (arith, (start c.before).pre.sized.few, (start c.before).pre.sized.count)
+offset_bounds-at-v : tie.Need-offset_bounds-at-v invariant-loop decreases-loop
+offset_bounds-at-v c = omega (arith, (start c.before).requires.sized.few, (start c.before).requires.sized.count)
 
-array-read-is-disjoint : tie.Need-array-read-is-disjoint invariant-loop decreases-loop
-array-read-is-disjoint c = omega (arith, (start c.before).pre.sized.few, (start c.before).pre.sized.count)
+bounds-at-v : tie.Need-bounds-at-v invariant-loop decreases-loop
+bounds-at-v c = omega (arith, (start c.before).requires.sized.few, (start c.before).requires.sized.count)
 
-is-disjoint-requires : tie.Need-is-disjoint-requires invariant-loop decreases-loop
-is-disjoint-requires c κs = search rules
+is_disjoint-requires : tie.Need-is_disjoint-requires invariant-loop decreases-loop
+is_disjoint-requires c κs = search rules
 
-add-v : tie.Need-overflow-add-v invariant-loop decreases-loop
-add-v c = search rules
+overflow_add-v : tie.Need-overflow_add-v invariant-loop decreases-loop
+overflow_add-v c = search rules
 
-loop-less : tie.Need-loop-smaller invariant-loop decreases-loop
-loop-less c = search rules
+loop-v-smaller : tie.Need-loop-v-smaller invariant-loop decreases-loop
+loop-v-smaller c = search rules
 
 -- the test at the atom that the scan stands at
-tested : (c : tie.After-is-disjoint invariant-loop decreases-loop) → c.is-disjoint.result ≡ unreached c.before.before.before.before.before.before.before.before.before.before.before.before.args.bytes.now c.before.before.loop.v
+tested : (c : tie.After-is_disjoint invariant-loop decreases-loop) → c.is_disjoint.result ≡ unreached c.before.before.before.before.before.before.before.before.before.before.before.before.args.bytes.now c.before.before.loop-v.v
 tested c =
     let b = c.before.before.before.before.before.before.before.before.before.before.before.before in
-    let l = c.before.before.loop in
-    rw (c.is-disjoint.ensures, l.invariant.2, c.before.before.before.before.before.before.before.before.bonds-at.ensures, atoms_at b.args.bytes.now l.v (omega (arith, b.requires.sized.few, b.requires.sized.count, c.before.if1.false)))
+    let l = c.before.before.loop-v in
+    rw (c.is_disjoint.ensures, l.invariant.2, c.before.before.before.before.before.before.before.before.bonds_at-at.ensures, atoms_at b.args.bytes.now l.v (omega (arith, b.requires.sized.few, b.requires.sized.count, c.before.if-v-a.false)))
     (by_bonds b.args.bytes.now b.requires l.v (omega arith))
 
-loop-again : tie.Need-loop-preserved invariant-loop decreases-loop
-loop-again c =
-    let l = c.before.before.before.loop in
-    (l.invariant.0, omega arith, l.invariant.2, scan_on (unreached (start c.before.before.before).args.bytes.now) _ l.v l.invariant.3 c.before.before.if1.false (sym (tested c.before) ∙ c.if2.false))
+loop-v-preserved : tie.Need-loop-v-preserved invariant-loop decreases-loop
+loop-v-preserved c =
+    let l = c.before.before.before.loop-v in
+    (l.invariant.0, omega arith, l.invariant.2, scan_on (unreached (start c.before.before.before).args.bytes.now) _ l.v l.invariant.3 c.before.before.if-v-a.false (sym (tested c.before) ∙ c.if-is_disjoint.false))
 
-returns : tie.Need-returns invariant-loop decreases-loop
-returns c =
-    let l = c.before.loop in
+returns-then-v-a : tie.Need-returns-then-v-a invariant-loop decreases-loop
+returns-then-v-a c =
+    let l = c.before.loop-v in
     let r = (start c.before).args.bytes.now in
-    scan_none (unreached r) _ l.v l.invariant.3 c.if1.true ∙ ap (first (unreached r)) l.invariant.0
+    scan_none (unreached r) _ l.v l.invariant.3 c.if-v-a.true ∙ ap (first (unreached r)) l.invariant.0
 
-returns-2 : tie.Need-returns-2 invariant-loop decreases-loop
-returns-2 c =
-    let l = c.before.before.before.loop in
+returns-then-is_disjoint : tie.Need-returns-then-is_disjoint invariant-loop decreases-loop
+returns-then-is_disjoint c =
+    let l = c.before.before.before.loop-v in
     let r = (start c.before.before.before).args.bytes.now in
-    scan_found (unreached r) _ l.v l.invariant.3 c.before.before.if1.false (sym (tested c.before) ∙ c.if2.true) ∙ ap (first (unreached r)) l.invariant.0
+    scan_found (unreached r) _ l.v l.invariant.3 c.before.before.if-v-a.false (sym (tested c.before) ∙ c.if-is_disjoint.true) ∙ ap (first (unreached r)) l.invariant.0
 
-pub first-unreached-spec : {M : Type 1} → statement M
-first-unreached-spec =
-    tie.close
-    (tie.spec
-    invariant-loop
-    decreases-loop
-    atoms-requires
-    bonds-requires
-    bonds-at-requires
-    touching-from-requires
-    cast-first-n
-    first-n-requires
-    array-read-reach
-    reach-requires
-    loop-holds
-    mul-is-disjoint
-    array-read-is-disjoint
-    is-disjoint-requires
-    add-v
-    loop-less
-    loop-again
-    returns
-    returns-2)
+pub first_unreached_spec : {M : Type 1} → statement M
+first_unreached_spec = tie.close (tie.spec invariant-loop decreases-loop atoms-a-requires bonds-n-requires bonds_at-at-requires touching_from-touch-requires overflow_cast-n first_n-requires bounds-at-0 reach-reached-requires loop-v-init offset_bounds-at-v bounds-at-v is_disjoint-requires overflow_add-v loop-v-smaller loop-v-preserved returns-then-v-a returns-then-is_disjoint)

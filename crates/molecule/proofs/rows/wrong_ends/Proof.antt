@@ -5,14 +5,14 @@ use Rattle.molecule.proofs.rows.wrong_ends.Tie as tie
 use Rattle.molecule.proofs.rows.wrong_ends.Reads as reads
 use Rattle.molecule.proofs.rows.wrong_ends.Lts as lts
 
+returns-then-a-u : tie.Need-returns-then-a-u
+returns-then-a-u c = rw (le-leb _ _ c.if-a-u.true)
+
+returns-then-a-v : tie.Need-returns-then-a-v
+returns-then-a-v c = rw (lt-leb _ _ c.before.if-a-u.false, le-leb _ _ c.if-a-v.true)
+
 returns : tie.Need-returns
-returns c = rw (le-leb _ _ c.if1.true)
+returns c = rw (lt-leb _ _ c.before.if-a-u.false, lt-leb _ _ c.if-a-v.false)
 
-returns-2 : tie.Need-returns-2
-returns-2 c = rw (lt-leb _ _ c.before.if1.false, le-leb _ _ c.if2.true)
-
-returns-3 : tie.Need-returns-3
-returns-3 c = rw (lt-leb _ _ c.before.if1.false, lt-leb _ _ c.if2.false)
-
-pub wrong-ends-spec : {M : Type 1} → statement M
-wrong-ends-spec = tie.close (tie.spec returns returns-2 returns-3)
+pub wrong_ends_spec : {M : Type 1} → statement M
+wrong_ends_spec = tie.close (tie.spec returns-then-a-u returns-then-a-v returns)
