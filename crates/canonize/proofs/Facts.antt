@@ -91,11 +91,13 @@ pub pair_label : (a b : Frag) → Distinct b.atoms → FormedFrag a → (j : Joi
 pair_label a b d f j x y p q e g = part_label a b d j (x.u ∷ x.v ∷ y.v ∷ []) (x ∷ y ∷ []) inn (record { distinct = g; ends = ends })
   where
     inn : (n : ℕ) → Mem n (x.u ∷ x.v ∷ y.v ∷ []) → Mem n a.atoms
+    inn n (m_tail (m_tail (m_tail x13))) = elim x13 [ ]
     inn n (m_head h) = mem_cast h (f.ends x p).0
     inn n (m_tail (m_head h)) = mem_cast h (f.ends x p).1
     inn n (m_tail (m_tail (m_head h))) = mem_cast h (f.ends y q).1
 
     ends : (z : Bond) → Mem z (arcs (x ∷ y ∷ [])) → Mem z.u (x.u ∷ x.v ∷ y.v ∷ []) × Mem z.v (x.u ∷ x.v ∷ y.v ∷ [])
+    ends z (m_tail (m_tail (m_tail (m_tail x17)))) = elim x17 [ ]
     ends z (m_head h) = (m_head (ap (λ (b : Bond). b.u) h), m_tail (m_head (ap (λ (b : Bond). b.v) h)))
     ends z (m_tail (m_head h)) = (m_tail (m_head (ap (λ (b : Bond). b.u) h)), m_head (ap (λ (b : Bond). b.v) h))
     ends z (m_tail (m_tail (m_head h))) = (m_tail (m_head (ap (λ (b : Bond). b.u) h ∙ sym e)), m_tail (m_tail (m_head (ap (λ (b : Bond). b.v) h))))

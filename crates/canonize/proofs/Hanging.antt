@@ -41,6 +41,7 @@ fits_good elem nil f = tt
 fits_good elem (kid b a e u r) f = (f.1, f.2, fits_good elem u f.3, fits_good elem r f.4)
 
 fits_item : (elem : ℕ → ℕ) (p : ℕ) (k : Kids) {i : Item} → CodesOf elem k → Mem i (items p k) → i.elem ≡ elem i.atom
+fits_item elem p nil {i = i} f x'' = elim x'' [ ]
 fits_item elem p (kid b a e u r) f (m_head h) = ap (λ (j : Item). j.elem) h ∙ f.0 ∙ ap elem (sym (ap (λ (j : Item). j.atom) h))
 fits_item elem p (kid b a e u r) {i} f (m_tail m) = go (mem_cases (items a u) m) (λ n. fits_item elem a u f.3 n) (λ n. fits_item elem p r f.4 n)
   where
@@ -192,10 +193,12 @@ two_ends v w b t =
     go x i (eqb-true x.u v h) (other x.v (eqb-false x.v v k) (t.ends x i).1)
   where
     other : (n : ℕ) → (n ≡ v → ⊥) → Mem n (v ∷ w ∷ []) → n ≡ w
+    other n f (m_tail (m_tail x8)) = elim x8 [ ]
     other n f (m_head e) = absurd (f e)
     other n f (m_tail (m_head e)) = e
 
     go : (x : Bond) → Mem x (b ∷ turn b ∷ []) → x.u ≡ v → x.v ≡ w → Perm (b.u ∷ b.v ∷ []) (v ∷ w ∷ [])
+    go x (m_tail (m_tail x11)) p q = elim x11 [ ]
     go x (m_head e) p q = p_cons (sym (ap (λ (z : Bond). z.u) e) ∙ p) (p_cons (sym (ap (λ (z : Bond). z.v) e) ∙ q) p_nil)
     go x (m_tail (m_head e)) p q = p_swap (sym (ap (λ (z : Bond). z.v) e) ∙ q) (sym (ap (λ (z : Bond). z.u) e) ∙ p)
 

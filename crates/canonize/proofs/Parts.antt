@@ -40,6 +40,7 @@ keep_wider p q (x ∷ l) h = go (two (p x)) (two (q x)) (keep_wider p q l h)
     go (inr a) (inr b) r = rw (a, b) r
 
 keep_more : {A : Type 0} (p q : A → Bool) (l : List A) → ((x : A) → p x ≡ true → q x ≡ true) → {y : A} → Mem y l → p y ≡ false → q y ≡ true → length (filter p l) + 1 ≤ length (filter q l)
+keep_more {A = A} p q [] h {y = y} x4 f g = elim x4 [ ]
 keep_more p q (x ∷ l) h (m_head e) f g = rw (sym (ap p e) ∙ f, sym (ap q e) ∙ g) (omega (arith, keep_wider p q l h))
 keep_more p q (x ∷ l) h (m_tail m) f g = go (two (p x)) (two (q x)) (keep_more p q l h m f g)
   where
@@ -72,6 +73,7 @@ abbrev pub Crossed : List ℕ → List Bond → Type 0
 Crossed ns bs = (S : ℕ → Bool) (p q : ℕ) → Mem p ns → Mem q ns → S p ≡ true → S q ≡ false → (x : Bond) × Mem x (arcs bs) × (S x.u ≡ true) × (S x.v ≡ false)
 
 pub arc_bond : (bs : List Bond) {x : Bond} → Mem x (arcs bs) → Mem x bs ⊎ Mem (turn x) bs
+arc_bond [] {x = x} x3 = elim x3 [ ]
 arc_bond (b ∷ bs) (m_head e) = inl (m_head e)
 arc_bond (b ∷ bs) (m_tail (m_head e)) = inr (m_head (ap turn e))
 arc_bond (b ∷ bs) {x} (m_tail (m_tail m)) = go (arc_bond bs m)

@@ -171,6 +171,7 @@ pub perm_two : {A : Type 0} {x y v w : A} → Perm (x ∷ y ∷ []) (v ∷ w ∷
 perm_two {A} {x} {y} {v} {w} p = let (zs, o, d) = perm_cons p in go zs o d
   where
     go : (zs : List A) → Out x (v ∷ w ∷ []) zs → Perm (y ∷ []) zs → ((x ≡ v) × (y ≡ w)) ⊎ ((x ≡ w) × (y ≡ v))
+    go _ (later (later {zs = zs} x10)) d = elim x10 [ ]
     go zs (first q) d = let (ws, o, f) = perm_cons d in inl (q, out_one o)
     go zs (later (first q)) d = let (ws, o, f) = perm_cons d in inr (q, out_one o)
 

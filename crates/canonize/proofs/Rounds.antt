@@ -39,11 +39,13 @@ pub record Treelike (ns : List ℕ) (bs : List Bond) : Type 0 where
 
 -- arcs
 pub arcs_turn : (bs : List Bond) {x : Bond} → Mem x (arcs bs) → Mem (turn x) (arcs bs)
+arcs_turn [] x3 = elim x3 [ ]
 arcs_turn (b ∷ bs) (m_head e) = m_tail (m_head (ap turn e))
 arcs_turn (b ∷ bs) (m_tail (m_head e)) = m_head (ap turn e)
 arcs_turn (b ∷ bs) (m_tail (m_tail m)) = m_tail (m_tail (arcs_turn bs m))
 
 pub arcs_mem : (bs : List Bond) {x : Bond} → Mem x bs → Mem x (arcs bs)
+arcs_mem [] x3 = elim x3 [ ]
 arcs_mem (b ∷ bs) (m_head e) = m_head e
 arcs_mem (b ∷ bs) (m_tail m) = m_tail (m_tail (arcs_mem bs m))
 
@@ -66,6 +68,9 @@ leads n x = eqb x.v n
 
 -- of a list of one
 one_same : {A : Type 0} (l : List A) {x y : A} → length l ≡ 1 → Mem x l → Mem y l → x ≡ y
+one_same {A = A} [] {y = y} e m n = elim m [ ]
+one_same {A = A} (z ∷ []) {y = y} e (m_head p) (m_tail x21) = elim x21 [ ]
+one_same {A = A} (z ∷ []) {y = y} e (m_tail x20) n = elim x20 [ ]
 one_same (z ∷ []) e (m_head p) (m_head q) = p ∙ sym q
 one_same (z ∷ w ∷ l) e m n = absurd (omega arith)
 
@@ -132,6 +137,8 @@ head_u n (x ∷ l) = x.u
 
 head_u_one : (n : ℕ) (l : List Bond) {x : Bond} → length l ≡ 1 → Mem x l → head_u n l ≡ x.u
 unfolding head_u
+head_u_one n [] e i = elim i [ ]
+head_u_one n (y ∷ []) e (m_tail x13) = elim x13 [ ]
 head_u_one n (y ∷ []) e (m_head h) = ap (λ (b : Bond). b.u) (sym h)
 head_u_one n (y ∷ z ∷ l) e i = absurd (omega arith)
 

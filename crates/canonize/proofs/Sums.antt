@@ -80,6 +80,7 @@ module _ {A : Type 0} where
   group_none x k g (a ∷ ns) f = rw (eqb_no {a = k} {b = a} (λ e. f (m_head e))) (ap (λ (z : List A). g a ++ z) (group_none x k g ns (λ m. f (m_tail m))))
 
   group_add : (x : A) (k : ℕ) (g : ℕ → List A) (ns : List ℕ) → Distinct ns → Mem k ns → Perm (flat (λ n. pick (eqb k n) (x ∷ g n) (g n)) ns) (x ∷ flat g ns)
+  group_add x k g [] d x3 = elim x3 [ ]
   group_add x k g (a ∷ ns) d (m_head e) = rw (eqb_yes e) (p_cons refl (perm_left (g a) (perm_eq (group_none x k g ns (λ m. d.0 (mem_cast (sym e) m))))))
   group_add x k g (a ∷ ns) d (m_tail m) =
       rw (eqb_no {a = k} {b = a} (λ e. d.0 (mem_cast (sym e) m))) (p_trans (perm_left (g a) (group_add x k g ns d.1 m)) (perm_middle x (g a) (flat g ns)))

@@ -87,6 +87,7 @@ module _ (ns : List ℕ) (bs : List Bond) (t : Treelike ns bs) (b c : Bond) (res
       y_in = along_arc bs y c j (perm_mem (perm_sym p) (m_tail (m_head refl)))
 
       second_one : Mem x.v (y.v ∷ []) → ⊥
+      second_one (m_tail x5) = elim x5 [ ]
       second_one (m_head h) = no_loop y y_in (inr j) (sym e ∙ h)
 
       ring : x.u ≡ y.v → ⊥
@@ -102,6 +103,7 @@ module _ (ns : List ℕ) (bs : List Bond) (t : Treelike ns bs) (b c : Bond) (res
           in_two z (inr q) = m_tail (m_head (eqb-true z x.v q))
 
       first_one : Mem x.u (x.v ∷ y.v ∷ []) → ⊥
+      first_one (m_tail (m_tail x9)) = elim x9 [ ]
       first_one (m_head h) = no_loop x x_in (inl i) h
       first_one (m_tail (m_head h)) = ring h
 
@@ -117,6 +119,9 @@ pair_connected b c n p q = record { some = b; in_it = m_head refl; walk = walk }
     move e (inr h) = inr (ap (λ (z : Bond). z.v) e ∙ h)
 
     walk : (x y : Bond) → Mem x (b ∷ c ∷ []) → Mem y (b ∷ c ∷ []) → BondWalk (b ∷ c ∷ []) x y
+    walk x y (m_head e) (m_tail (m_tail x15)) = elim x15 [ ]
+    walk x y (m_tail (m_head e)) (m_tail (m_tail x24)) = elim x24 [ ]
+    walk x y (m_tail (m_tail x19)) _ = elim x19 [ ]
     walk x y (m_head e) (m_head f) = stop (e ∙ sym f)
     walk x y (m_head e) (m_tail (m_head f)) = step n (move e p) (move f q) (m_tail (m_head f)) (stop refl)
     walk x y (m_tail (m_head e)) (m_head f) = step n (move e q) (move f p) (m_head f) (stop refl)

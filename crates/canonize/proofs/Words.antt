@@ -294,6 +294,7 @@ module _ {r : Bytes} {s L : ℕ} {X : ℕ → Bytes} {z : Peel} (p : Peeled r s 
       )
     where
       flat_at : (g : ℕ → List Item) (l : List ℕ) → Mem v l → length (g v) ≤ length (flat g l)
+      flat_at g [] x' = elim x' [ ]
       flat_at g (x ∷ l) (m_head e) = simp length-append (omega (arith, ap (λ (n : ℕ). length (g n)) e))
       flat_at g (x ∷ l) (m_tail i) = simp length-append (omega (arith, flat_at g l i))
 

@@ -42,52 +42,41 @@ inside r s n o = rw (ne_eqb s 0 n, lt-leb (2 ^ bonds r) s o) (twice (connected r
     twice true = refl
     twice false = refl
 
-returns : tie.Need-returns
-returns c = empty c.before.before.args.bytes.now c.before.before.args.set c.if1.true
+returns-then-set-eq0 : tie.Need-returns-then-set-eq0
+returns-then-set-eq0 c = empty c.args.bytes.now c.args.set c.if-set-eq0.true
 
 bonds-requires : tie.Need-bonds-requires
-bonds-requires c κs = omega (arith, (accepted_formed c.before.before.args.bytes.now c.before.before.requires.0).sized.long)
+bonds-requires c κs = omega (arith, (accepted_formed c.args.bytes.now c.requires.0).sized.long)
 
-cast-first-n : tie.Need-overflow-cast-first-n
-cast-first-n c = search rules
+overflow_cast-bonds : tie.Need-overflow_cast-bonds
+overflow_cast-bonds c = search rules
 
-first-n-requires : tie.Need-first-n-requires
-first-n-requires c κs = omega (arith, (accepted_formed c.before.before.before.args.bytes.now c.before.before.before.requires.0).sized.few, c.bonds.ensures.0)
+first_n-requires : tie.Need-first_n-requires
+first_n-requires c κs = omega (arith, (accepted_formed c.args.bytes.now c.requires.0).sized.few, c.bonds.ensures.0)
 
-is-subset-requires : tie.Need-is-subset-requires
-is-subset-requires c κs = search rules
+is_subset-requires : tie.Need-is_subset-requires
+is_subset-requires c κs = search rules
 
 -- the test on the bonds
-tested : (c : tie.After-is-subset) → c.is_subset.result ≡ is_sub c.before.before.before.before.before.args.set (all_bonds c.before.before.before.before.before.args.bytes.now)
-tested c = c.is_subset.ensures ∙ ap (λ (x : ℕ). is_sub c.before.before.before.before.before.args.set x) (c.before.first-n.ensures ∙ ap (λ (n : ℕ). 2 ^ n - 1) c.before.before.bonds.ensures.0)
+tested : (c : tie.After-is_subset) → c.is_subset.result ≡ is_sub c.args.set (all_bonds c.args.bytes.now)
+tested c = c.is_subset.ensures ∙ ap (λ (x : ℕ). is_sub c.args.set x) (c.first_n.ensures ∙ ap (λ (n : ℕ). 2 ^ n - 1) c.bonds.ensures.0)
 
-returns-2 : tie.Need-returns-2
-returns-2 c = outside c.before.before.before.before.before.before.args.bytes.now c.before.before.before.before.before.before.args.set c.before.before.before.before.if1.false (sym (tested c.before) ∙ not-true _ c.if2.true)
+returns-then-not-is_subset : tie.Need-returns-then-not-is_subset
+returns-then-not-is_subset c = outside c.args.bytes.now c.args.set c.if-set-eq0.false (sym (tested c.before) ∙ c.if-not-is_subset.true)
 
-touching-from-requires : tie.Need-touching-from-requires
-touching-from-requires c κs = (accepted_formed c.before.before.before.before.before.before.args.bytes.now c.before.before.before.before.before.before.requires.0, c.before.before.before.before.before.before.requires.1)
+touching_from-touch-requires : tie.Need-touching_from-touch-requires
+touching_from-touch-requires c κs = (accepted_formed c.args.bytes.now c.requires.0, c.requires.1)
 
-is-connected-requires : tie.Need-is-connected-requires
-is-connected-requires c κs = search rules
+is_connected-requires : tie.Need-is_connected-requires
+is_connected-requires c κs = search rules
 
-returns-3 : tie.Need-returns-3
-returns-3 c =
-    let start = c.before.before.before.before.before.before.before.before.before in
+returns : tie.Need-returns
+returns c =
+    let start = c in
     let r = start.args.bytes.now in
     let s = start.args.set in
-    let o : Own r s = all_own r s (eqb-true _ _ (sym (tested c.before.before.before.before) ∙ not-false _ c.before.before.before.if2.false)) in
-    c.is-connected.ensures ∙ rw c.before.before.touching-from.ensures (connected_words r (accepted_formed r start.requires.0).sized.few s o ∙ inside r s c.before.before.before.before.before.before.before.if1.false o)
+    let o : Own r s = all_own r s (eqb-true _ _ (sym (tested c.before.before.before.before) ∙ c.if-not-is_subset.false)) in
+    c.is_connected.ensures ∙ rw c.touching_from-touch.ensures (connected_words r (accepted_formed r start.requires.0).sized.few s o ∙ inside r s c.if-set-eq0.false o)
 
-pub is-fragment-spec : {M : Type 1} → statement M
-is-fragment-spec =
-    tie.close
-    (tie.spec
-    returns
-    bonds-requires
-    cast-first-n
-    first-n-requires
-    is-subset-requires
-    returns-2
-    touching-from-requires
-    is-connected-requires
-    returns-3)
+pub is_fragment_spec : {M : Type 1} → statement M
+is_fragment_spec = tie.close (tie.spec returns-then-set-eq0 bonds-requires overflow_cast-bonds first_n-requires is_subset-requires returns-then-not-is_subset touching_from-touch-requires is_connected-requires returns)

@@ -9,34 +9,25 @@ use Rattle.canonize.proofs.label.Tie as tie
 check-requires : tie.Need-check-requires
 check-requires c κs = search rules
 
-enum_told : tie.Need-enum-told
-enum_told c = search rules
+enum_told-1 : tie.Need-enum_told-1
+enum_told-1 c = search rules
 
-label-accepted-requires : tie.Need-label-accepted-requires
-label-accepted-requires c κs = sym (sym (ap answer_of c.before.enum_told.given.1) ∙ c.before.before.before.check.ensures)
+label_accepted-requires : tie.Need-label_accepted-requires
+label_accepted-requires c κs = sym (sym (ap answer_of c.in-Accepted.is) ∙ c.check.ensures)
 
-enum-known-fault : tie.Need-enum-known-fault
-enum-known-fault c = search rules
+enum_known-fault : tie.Need-enum_known-fault
+enum_known-fault c = search rules
 
-same_length : tie.Need-same-length
-same_length c = search rules
+shape_of-out : tie.Need-shape_of-out
+shape_of-out c = search rules
 
-returns : tie.Need-returns
-returns c = search rules
+returns-in-Accepted : tie.Need-returns-in-Accepted
+returns-in-Accepted c = search rules
 
-returns-2 : tie.Need-returns-2
-returns-2 c =
-    let a = c.before.before.before.before.before.before.args in
-    answer_refused a.bytes.now a.set a.out.now _ _ (record_row a.bytes.now a.set a.out.now _ _ (sym (sym (ap answer_of c.before.fault.given.1) ∙ c.before.before.before.check.ensures)))
+returns-in-Refused : tie.Need-returns-in-Refused
+returns-in-Refused c =
+    let a = c.args in
+    answer_refused a.bytes.now a.set a.out.now _ _ (record_row a.bytes.now a.set a.out.now _ _ (sym (sym (ap answer_of c.in-Refused.is) ∙ c.check.ensures)))
 
-pub label-spec : {M : Type 1} → statement M
-label-spec =
-    tie.close
-    (tie.spec
-    check-requires
-    enum_told
-    label-accepted-requires
-    enum-known-fault
-    same_length
-    returns
-    returns-2)
+pub label_spec : {M : Type 1} → statement M
+label_spec = tie.close (tie.spec check-requires enum_told-1 label_accepted-requires enum_known-fault shape_of-out returns-in-Accepted returns-in-Refused)

@@ -9,60 +9,47 @@ use Rattle.canonize.proofs.Comparing.{same_length, same_done, same_next, same_di
 use Rattle.canonize.proofs.compare.equal.Statement.{statement}
 use Rattle.canonize.proofs.compare.equal.Tie as tie
 
-abbrev invariant-loop : tie.invariant-loop
+abbrev invariant-loop : tie.invariant-loop-i
 invariant-loop x y i₀ i = (i ≤ length x) × (length x ≡ length y) × (same (drop i x) (drop i y) ≡ same x y)
 
-abbrev decreases-loop : tie.decreases-loop
+abbrev decreases-loop : tie.decreases-loop-i
 decreases-loop x y i₀ i = length x - i
 
+returns-then-x-y : tie.Need-returns-then-x-y invariant-loop decreases-loop
+returns-then-x-y c = sym (same_length c.args.x.now c.args.y.now c.if-x-y.true)
+
+loop-i-init : tie.Need-loop-i-init invariant-loop decreases-loop
+loop-i-init c = (omega arith, c.if-x-y.false, refl)
+
+bounds-x-i : tie.Need-bounds-x-i invariant-loop decreases-loop
+bounds-x-i c = search rules
+
+bounds-y-i : tie.Need-bounds-y-i invariant-loop decreases-loop
+bounds-y-i c = omega arith
+
+returns-then-x-i : tie.Need-returns-then-x-i invariant-loop decreases-loop
+returns-then-x-i c =
+    let a = c.args in
+    let l = c.loop-i in
+    sym (same_differ a.x.now a.y.now l.i (omega arith) (omega arith) c.if-x-i.true) ∙ l.invariant.2
+
+overflow_add-i : tie.Need-overflow_add-i invariant-loop decreases-loop
+overflow_add-i c = omega arith
+
+loop-i-smaller : tie.Need-loop-i-smaller invariant-loop decreases-loop
+loop-i-smaller c = omega arith
+
+loop-i-preserved : tie.Need-loop-i-preserved invariant-loop decreases-loop
+loop-i-preserved c =
+    let a = c.args in
+    let l = c.loop-i in
+    (omega arith, l.invariant.1, sym (same_next a.x.now a.y.now l.i (omega arith) (omega arith) c.if-x-i.false) ∙ l.invariant.2)
+
 returns : tie.Need-returns invariant-loop decreases-loop
-returns c = sym (same_length c.before.args.x.now c.before.args.y.now c.if1.true)
-
-loop-holds : tie.Need-loop-init invariant-loop decreases-loop
-loop-holds c = (omega arith, c.if1.false, refl)
-
-shared-slice-read-if2 : tie.Need-shared-slice-read-if2 invariant-loop decreases-loop
-shared-slice-read-if2 c = search rules
-
-shared-slice-read-if2-2 : tie.Need-shared-slice-read-if2-2 invariant-loop decreases-loop
-shared-slice-read-if2-2 c = omega arith
-
-returns-2 : tie.Need-returns-2 invariant-loop decreases-loop
-returns-2 c =
-    let a = c.before.before.before.before.before.before.args in
-    let l = c.before.before.before.before.loop in
-    sym (same_differ a.x.now a.y.now l.i (omega arith) (omega arith) c.if2.true) ∙ l.invariant.2
-
-add-i : tie.Need-overflow-add-i invariant-loop decreases-loop
-add-i c = omega arith
-
-loop-less : tie.Need-loop-smaller invariant-loop decreases-loop
-loop-less c = omega arith
-
-loop-again : tie.Need-loop-preserved invariant-loop decreases-loop
-loop-again c =
-    let a = c.before.before.before.before.before.before.args in
-    let l = c.before.before.before.before.loop in
-    (omega arith, l.invariant.1, sym (same_next a.x.now a.y.now l.i (omega arith) (omega arith) c.if2.false) ∙ l.invariant.2)
-
-returns-3 : tie.Need-returns-3 invariant-loop decreases-loop
-returns-3 c =
-    let a = c.before.before.before.args in
-    let l = c.before.loop in
+returns c =
+    let a = c.args in
+    let l = c.loop-i in
     sym (same_done a.x.now a.y.now l.i (omega arith) (omega arith)) ∙ l.invariant.2
 
-pub equal-spec : {M : Type 1} → statement M
-equal-spec =
-    tie.close
-    (tie.spec
-    invariant-loop
-    decreases-loop
-    returns
-    loop-holds
-    shared-slice-read-if2
-    shared-slice-read-if2-2
-    returns-2
-    add-i
-    loop-less
-    loop-again
-    returns-3)
+pub equal_spec : {M : Type 1} → statement M
+equal_spec = tie.close (tie.spec invariant-loop decreases-loop returns-then-x-y loop-i-init bounds-x-i bounds-y-i returns-then-x-i overflow_add-i loop-i-smaller loop-i-preserved returns)

@@ -13,10 +13,10 @@ use Rattle.canonize.proofs.Sorting.{lexle_below, lexle_above, lexle_same}
 use Rattle.canonize.proofs.compare.less_or_equal.Statement.{statement}
 use Rattle.canonize.proofs.compare.less_or_equal.Tie as tie
 
-abbrev invariant-loop : tie.invariant-loop
+abbrev invariant-loop : tie.invariant-loop-i
 invariant-loop x y i₀ i = (i ≤ length x) × (i ≤ length y) × (lex_le x y ≡ lex_le (drop i x) (drop i y))
 
-abbrev decreases-loop : tie.decreases-loop
+abbrev decreases-loop : tie.decreases-loop-i
 decreases-loop x y i₀ i = length x - i
 
 -- what is left, where one string ends and where neither does
@@ -42,64 +42,50 @@ module _ (x y : Bytes) (i : ℕ) where
     alike : get_or x i 0 ≡ get_or y i 0 → lex_le (drop i x) (drop i y) ≡ lex_le (drop (i + 1) x) (drop (i + 1) y)
     alike e = rw add-one (heads ∙ lexle_same (get_or x i 0) (get_or y i 0) (drop (suc i) x) (drop (suc i) y) e)
 
-loop-holds : tie.Need-loop-init invariant-loop decreases-loop
-loop-holds c = (omega arith, omega arith, refl)
+loop-i-init : tie.Need-loop-i-init invariant-loop decreases-loop
+loop-i-init c = (omega arith, omega arith, refl)
 
-returns : tie.Need-returns invariant-loop decreases-loop
-returns c =
-    let a = c.before.before.args in
-    let l = c.before.loop in
-    sym (l.invariant.2 ∙ first_ends a.x.now a.y.now l.i c.if1.true)
+returns-then-i-x : tie.Need-returns-then-i-x invariant-loop decreases-loop
+returns-then-i-x c =
+    let a = c.args in
+    let l = c.loop-i in
+    sym (l.invariant.2 ∙ first_ends a.x.now a.y.now l.i c.if-i-x.true)
 
-returns-2 : tie.Need-returns-2 invariant-loop decreases-loop
-returns-2 c =
-    let a = c.before.before.before.args in
-    let l = c.before.before.loop in
-    sym (l.invariant.2 ∙ second_ends a.x.now a.y.now l.i (omega arith) c.if2.true)
+returns-then-i-y : tie.Need-returns-then-i-y invariant-loop decreases-loop
+returns-then-i-y c =
+    let a = c.args in
+    let l = c.loop-i in
+    sym (l.invariant.2 ∙ second_ends a.x.now a.y.now l.i (omega arith) c.if-i-y.true)
 
-shared-slice-read-a : tie.Need-shared-slice-read-a invariant-loop decreases-loop
-shared-slice-read-a c = omega arith
+bounds-x-i : tie.Need-bounds-x-i invariant-loop decreases-loop
+bounds-x-i c = omega arith
 
-shared-slice-read-b : tie.Need-shared-slice-read-b invariant-loop decreases-loop
-shared-slice-read-b c = omega arith
+bounds-y-i : tie.Need-bounds-y-i invariant-loop decreases-loop
+bounds-y-i c = omega arith
 
-returns-3 : tie.Need-returns-3 invariant-loop decreases-loop
-returns-3 c =
-    let a = c.before.before.before.before.before.before.args in
-    let l = c.before.before.before.before.before.loop in
-    sym (l.invariant.2 ∙ first_less a.x.now a.y.now l.i (omega arith) (omega arith) c.if3.true)
+returns-then-a-b : tie.Need-returns-then-a-b invariant-loop decreases-loop
+returns-then-a-b c =
+    let a = c.args in
+    let l = c.loop-i in
+    sym (l.invariant.2 ∙ first_less a.x.now a.y.now l.i (omega arith) (omega arith) c.if-a-b.true)
 
-returns-4 : tie.Need-returns-4 invariant-loop decreases-loop
-returns-4 c =
-    let a = c.before.before.before.before.before.before.before.args in
-    let l = c.before.before.before.before.before.before.loop in
-    sym (l.invariant.2 ∙ second_less a.x.now a.y.now l.i (omega arith) (omega arith) c.if4.true)
+returns-then-b-a : tie.Need-returns-then-b-a invariant-loop decreases-loop
+returns-then-b-a c =
+    let a = c.args in
+    let l = c.loop-i in
+    sym (l.invariant.2 ∙ second_less a.x.now a.y.now l.i (omega arith) (omega arith) c.if-b-a.true)
 
-add-i : tie.Need-overflow-add-i invariant-loop decreases-loop
-add-i c = omega arith
+overflow_add-i : tie.Need-overflow_add-i invariant-loop decreases-loop
+overflow_add-i c = omega arith
 
-loop-less : tie.Need-loop-smaller invariant-loop decreases-loop
-loop-less c = omega arith
+loop-i-smaller : tie.Need-loop-i-smaller invariant-loop decreases-loop
+loop-i-smaller c = omega arith
 
-loop-again : tie.Need-loop-preserved invariant-loop decreases-loop
-loop-again c =
-    let a = c.before.before.before.before.before.before.before.args in
-    let l = c.before.before.before.before.before.before.loop in
+loop-i-preserved : tie.Need-loop-i-preserved invariant-loop decreases-loop
+loop-i-preserved c =
+    let a = c.args in
+    let l = c.loop-i in
     (omega arith, omega arith, l.invariant.2 ∙ alike a.x.now a.y.now l.i (omega arith) (omega arith) (omega arith))
 
-pub less-or-equal-spec : {M : Type 1} → statement M
-less-or-equal-spec =
-    tie.close
-    (tie.spec
-    invariant-loop
-    decreases-loop
-    loop-holds
-    returns
-    returns-2
-    shared-slice-read-a
-    shared-slice-read-b
-    returns-3
-    returns-4
-    add-i
-    loop-less
-    loop-again)
+pub less_or_equal_spec : {M : Type 1} → statement M
+less_or_equal_spec = tie.close (tie.spec invariant-loop decreases-loop loop-i-init returns-then-i-x returns-then-i-y bounds-x-i bounds-y-i returns-then-a-b returns-then-b-a overflow_add-i loop-i-smaller loop-i-preserved)

@@ -22,39 +22,31 @@ one_left h w e = go (ℕ_discrete w 0)
     go (yes z) = eq-eqb w 0 z ∙ sym (eq-eqb (size h) 1 (omega (arith, e, ap size z, size_empty)))
     go (no n) = ne_eqb w 0 n ∙ sym (ne_eqb (size h) 1 (λ q. n (size_zero w (omega (arith, e)))))
 
-mul-common : tie.Need-overflow-mul-common
-mul-common c = search rules
+offset_bounds-at-v : tie.Need-offset_bounds-at-v
+offset_bounds-at-v c = search rules
 
-element-copy-out-common : tie.Need-element-copy-out-common
-element-copy-out-common c = search rules
+bounds-at-v : tie.Need-bounds-at-v
+bounds-at-v c = search rules
 
-common-requires : tie.Need-common-requires
-common-requires c κs = search rules
+common-here-requires : tie.Need-common-here-requires
+common-here-requires c κs = search rules
 
 -- the bonds of left at the atom
-here : (c : tie.After-common) → c.common.result ≡ bit_and (bonds_at c.before.before.before.args.bytes.now c.before.before.before.args.v) c.before.before.before.args.left
+here : (c : tie.After-common-here) → c.common-here.result ≡ bit_and (bonds_at c.args.bytes.now c.args.v) c.args.left
 here c =
-    let start = c.before.before.before in
-    c.common.ensures ∙ rw (start.requires.0, atoms_at start.args.bytes.now start.args.v start.requires.1)
+    let start = c in
+    c.common-here.ensures ∙ rw (start.requires.0, atoms_at start.args.bytes.now start.args.v start.requires.1)
+
+returns-then-here-eq0 : tie.Need-returns-then-here-eq0
+unfolding is_tip
+returns-then-here-eq0 c = sym (ap (λ (x : ℕ). eqb (size x) 1) (sym (here c.before) ∙ c.if-here-eq0.true) ∙ ap (λ (x : ℕ). eqb x 1) size_empty)
+
+without_lowest-requires : tie.Need-without_lowest-requires
+without_lowest-requires c κs = search rules
 
 returns : tie.Need-returns
 unfolding is_tip
-returns c = sym (ap (λ (x : ℕ). eqb (size x) 1) (sym (here c.before) ∙ c.if1.true) ∙ ap (λ (x : ℕ). eqb x 1) size_empty)
+returns c = one_left c.common-here.result c.without_lowest.result c.without_lowest.ensures.fewer ∙ ap (λ (x : ℕ). eqb (size x) 1) (here c.before.before)
 
-without-lowest-requires : tie.Need-without-lowest-requires
-without-lowest-requires c κs = search rules
-
-returns-2 : tie.Need-returns-2
-unfolding is_tip
-returns-2 c = one_left c.before.before.common.result c.without_lowest_lem.result c.without_lowest_lem.ensures.fewer ∙ ap (λ (x : ℕ). eqb (size x) 1) (here c.before.before)
-
-pub is-tip-spec : {M : Type 1} → statement M
-is-tip-spec =
-    tie.close
-    (tie.spec
-    mul-common
-    element-copy-out-common
-    common-requires
-    returns
-    without-lowest-requires
-    returns-2)
+pub is_tip_spec : {M : Type 1} → statement M
+is_tip_spec = tie.close (tie.spec offset_bounds-at-v bounds-at-v common-here-requires returns-then-here-eq0 without_lowest-requires returns)

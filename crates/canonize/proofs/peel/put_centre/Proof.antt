@@ -9,17 +9,17 @@ use Rattle.canonize.proofs.Putting.{Begun, begun_serves, begun_short, begun_plac
 use Rattle.canonize.proofs.peel.put_centre.Statement.{statement}
 use Rattle.canonize.proofs.peel.put_centre.Tie as tie
 
-abbrev to_start : tie.After-put-atom → tie.Start
+abbrev to_start : tie.After-put_atom-end → tie.Start
 to_start c = c.before.before.before.before.before
 
 abbrev label : tie.Start → Bytes
 label s = collapse (strings_at s.args.bytes.now s.args.s s.args.left (slot s.args.slate.now) s.args.v)
 
-start-requires : tie.Need-start-requires
-start-requires c κs = search rules
+start-start-requires : tie.Need-start-start-requires
+start-start-requires c κs = search rules
 
-put-atom-requires : tie.Need-put-atom-requires
-put-atom-requires c κs =
+put_atom-end-requires : tie.Need-put_atom-end-requires
+put_atom-end-requires c κs =
     let s : tie.Start = c.before.before.before.before in
     let a = s.args in
     let p = s.requires in
@@ -28,38 +28,30 @@ put-atom-requires c κs =
       p.1,
       p.2,
       p.3,
-      centre_room a.bytes.now a.s a.left a.v a.k c.before.start.result _ low p.4 p.5
-          c.before.start.ensures p.6,
+      centre_room a.bytes.now a.s a.left a.v a.k c.start-start.result _ low p.4 p.5
+          c.start-start.ensures p.6,
     )
 
-sub-set-length : tie.Need-overflow-sub-set-length
-sub-set-length c = search rules
+overflow_sub-end : tie.Need-overflow_sub-end
+overflow_sub-end c = search rules
 
-begun : (c : tie.After-put-atom)
-    → (let s = to_start c in Begun s.args.slate.now s.args.k c.before.before.start.result (label s) c.put-atom.result
-    c.put-atom.new.1.1.1.1.1.0)
+begun : (c : tie.After-put_atom-end)
+    → (let s = to_start c in Begun s.args.slate.now s.args.k c.start-start.result (label s) c.put_atom-end.result
+    c.put_atom-end.new.slate)
 begun c =
     let p = (to_start c).requires in
-    record { serves = p.3; within = p.5; at = c.before.before.start.ensures; short = p.6; wrote = c.put-atom.ensures }
+    record { serves = p.3; within = p.5; at = c.start-start.ensures; short = p.6; wrote = c.put_atom-end.ensures }
 
-set-length-requires : tie.Need-set-length-requires
-set-length-requires c κs =
+set_length-requires : tie.Need-set_length-requires
+set_length-requires c κs =
     let w = begun c.before.before.before in
     (begun_serves w, w.within, (begun_short w).1)
 
-same_length : tie.Need-same-length
-same_length c = search rules
+shape_of-slate : tie.Need-shape_of-slate
+shape_of-slate c = search rules
 
 returns : tie.Need-returns
-returns c = placed_label (begun_placed (begun c.before.before.before.before.before.before) c.before.before.set-length.ensures)
+returns c = placed_label (begun_placed (begun c.before.before.before.before.before.before) c.set_length.ensures)
 
-pub put-centre-spec : {M : Type 1} → statement M
-put-centre-spec =
-    tie.close
-    (tie.spec
-    start-requires
-    put-atom-requires
-    sub-set-length
-    set-length-requires
-    same_length
-    returns)
+pub put_centre_spec : {M : Type 1} → statement M
+put_centre_spec = tie.close (tie.spec start-start-requires put_atom-end-requires overflow_sub-end set_length-requires shape_of-slate returns)

@@ -8,21 +8,21 @@ use Rattle.canonize.specs.Inner.Slate.{kept}
 use Rattle.canonize.proofs.slate.is_before.Statement.{statement}
 use Rattle.canonize.proofs.slate.is_before.Tie as tie
 
-label-into-requires : tie.Need-label-into-requires
-label-into-requires c κs = search rules
+label_into-requires : tie.Need-label_into-requires
+label_into-requires c κs = search rules
 
-slot-before-requires : tie.Need-slot-before-requires
-slot-before-requires c κs = search rules
+slot_before-requires : tie.Need-slot_before-requires
+slot_before-requires c κs = search rules
 
-same_length : tie.Need-same-length
-same_length c = search rules
+shape_of-slate : tie.Need-shape_of-slate
+shape_of-slate c = search rules
 
 returns : tie.Need-returns
 unfolding kept
 returns c =
-    let z = c.before.before.before.before.label-into.ensures in
+    let z = c.label_into.ensures in
     let k = z.others 64 (omega arith) (λ e. omega arith) in
-    (ap not (c.slot-before.ensures ∙ ap₂ lex_le k z.this), record { serves = z.serves; label = k })
+    (ap not (c.slot_before.ensures ∙ ap₂ lex_le k z.this), record { serves = z.serves; label = k })
 
-pub is-before-spec : {M : Type 1} → statement M
-is-before-spec = tie.close (tie.spec label-into-requires slot-before-requires same_length returns)
+pub is_before_spec : {M : Type 1} → statement M
+is_before_spec = tie.close (tie.spec label_into-requires slot_before-requires shape_of-slate returns)

@@ -8,81 +8,63 @@ use Rattle.canonize.proofs.Slots.{slot_part}
 use Rattle.canonize.proofs.slate.is_kept.Statement.{statement}
 use Rattle.canonize.proofs.slate.is_kept.Tie as tie
 
-label-into-requires : tie.Need-label-into-requires
-label-into-requires c κs = search rules
+label_into-requires : tie.Need-label_into-requires
+label_into-requires c κs = search rules
 
-slot-length-requires : tie.Need-slot-length-requires
-slot-length-requires c κs = search rules
+slot_length-n-requires : tie.Need-slot_length-n-requires
+slot_length-n-requires c κs = search rules
 
-slot-length-requires-2 : tie.Need-slot-length-requires-2
-slot-length-requires-2 c κs = search rules
+slot_length-m-requires : tie.Need-slot_length-m-requires
+slot_length-m-requires c κs = search rules
 
-start-requires : tie.Need-start-requires
-start-requires c κs = search rules
+start-first-requires : tie.Need-start-first-requires
+start-first-requires c κs = search rules
 
-start-requires-2 : tie.Need-start-requires-2
-start-requires-2 c κs = search rules
+start-second-requires : tie.Need-start-second-requires
+start-second-requires c κs = search rules
 
-add-equal : tie.Need-overflow-add-equal
-add-equal c = search rules
+overflow_add-first : tie.Need-overflow_add-first
+overflow_add-first c = search rules
 
-sub-equal : tie.Need-overflow-sub-equal
-sub-equal c = search rules
+slice_bounds-equal-count : tie.Need-slice_bounds-equal-count
+slice_bounds-equal-count c = search rules
 
-part-equal-start : tie.Need-slice-bounds-equal-start
-part-equal-start c = search rules
+slice_bounds-equal-start : tie.Need-slice_bounds-equal-start
+slice_bounds-equal-start c = search rules
 
-part-equal-end : tie.Need-slice-bounds-equal-end
-part-equal-end c = search rules
+slice_bounds-equal-end : tie.Need-slice_bounds-equal-end
+slice_bounds-equal-end c = search rules
 
-add-equal-2 : tie.Need-overflow-add-equal-2
-add-equal-2 c = search rules
+overflow_add-second : tie.Need-overflow_add-second
+overflow_add-second c = search rules
 
-sub-equal-2 : tie.Need-overflow-sub-equal-2
-sub-equal-2 c = search rules
+slice_bounds-equal-count-2 : tie.Need-slice_bounds-equal-count-2
+slice_bounds-equal-count-2 c = search rules
 
-part-equal-start-2 : tie.Need-slice-bounds-equal-start-2
-part-equal-start-2 c = search rules
+slice_bounds-equal-start-2 : tie.Need-slice_bounds-equal-start-2
+slice_bounds-equal-start-2 c = search rules
 
-part-equal-end-2 : tie.Need-slice-bounds-equal-end-2
-part-equal-end-2 c = search rules
+slice_bounds-equal-end-2 : tie.Need-slice_bounds-equal-end-2
+slice_bounds-equal-end-2 c = search rules
 
 equal-requires : tie.Need-equal-requires
 equal-requires c κs = search rules
 
-same_length : tie.Need-same-length
-same_length c = search rules
+shape_of-slate : tie.Need-shape_of-slate
+shape_of-slate c = search rules
 
 returns : tie.Need-returns
 unfolding kept
 returns c =
-    let z = c.before.before.before.before.before.before.before.before.before.before.before.before.label-into.ensures in
+    let z = c.label_into.ensures in
     let k = z.others 64 (omega arith) (λ e. omega arith) in
-    let s = c.before.before.before.before.before.start in
-    let n = c.before.before.before.before.before.before.before.before.slot_length_lem in
-    let t = c.before.before.before.before.start2 in
-    let m = c.before.before.before.before.before.before.slot-length2 in
+    let s = c.start-first in
+    let n = c.slot_length-n in
+    let t = c.start-second in
+    let m = c.slot_length-m in
     let x = slot_part _ 64 s.result n.result s.ensures n.ensures.0 in
     let y = slot_part _ 65 t.result m.result t.ensures m.ensures.0 in
     (c.equal.ensures ∙ ap₂ same (x ∙ k) (y ∙ z.this), record { serves = z.serves; label = k })
 
-pub is-kept-spec : {M : Type 1} → statement M
-is-kept-spec =
-    tie.close
-    (tie.spec
-    label-into-requires
-    slot-length-requires
-    slot-length-requires-2
-    start-requires
-    start-requires-2
-    add-equal
-    sub-equal
-    part-equal-start
-    part-equal-end
-    add-equal-2
-    sub-equal-2
-    part-equal-start-2
-    part-equal-end-2
-    equal-requires
-    same_length
-    returns)
+pub is_kept_spec : {M : Type 1} → statement M
+is_kept_spec = tie.close (tie.spec label_into-requires slot_length-n-requires slot_length-m-requires start-first-requires start-second-requires overflow_add-first slice_bounds-equal-count slice_bounds-equal-start slice_bounds-equal-end overflow_add-second slice_bounds-equal-count-2 slice_bounds-equal-start-2 slice_bounds-equal-end-2 equal-requires shape_of-slate returns)

@@ -12,67 +12,53 @@ use Rattle.canonize.proofs.Passing.{turn, passed_none, after_none, after_with, a
 use Rattle.canonize.proofs.strings.after_byte.Statement.{statement}
 use Rattle.canonize.proofs.strings.after_byte.Tie as tie
 
-abbrev invariant-loop : tie.invariant-loop
+abbrev invariant-loop : tie.invariant-loop-rest
 invariant-loop slate set e rest₀ after₀ rest after = (rest < 2 ^ 64) × Sub rest set × After (slot slate) (diff set rest) e after
 
-abbrev decreases-loop : tie.decreases-loop
+abbrev decreases-loop : tie.decreases-loop-rest
 decreases-loop slate set e rest₀ after₀ rest after = size rest
 
-loop-holds : tie.Need-loop-init invariant-loop decreases-loop
-loop-holds c = (search rules, and_self c.before.args.set, rw (passed_none c.before.args.set) (after_none c.before.args.e))
+loop-rest-init : tie.Need-loop-rest-init invariant-loop decreases-loop
+loop-rest-init c = (search rules, and_self c.args.set, rw (passed_none c.args.set) (after_none c.args.e))
 
-lowest-requires : tie.Need-lowest-requires invariant-loop decreases-loop
-lowest-requires c κs = omega arith
+lowest-i-requires : tie.Need-lowest-i-requires invariant-loop decreases-loop
+lowest-i-requires c κs = omega arith
 
-without-lowest-requires : tie.Need-without-lowest-requires invariant-loop decreases-loop
-without-lowest-requires c κs = omega arith
+without_lowest-rest-requires : tie.Need-without_lowest-rest-requires invariant-loop decreases-loop
+without_lowest-rest-requires c κs = omega arith
 
-byte-before-requires : tie.Need-byte-before-requires invariant-loop decreases-loop
-byte-before-requires c κs = (c.before.before.before.before.before.requires, c.before.lowest.ensures.within)
+byte_before-requires : tie.Need-byte_before-requires invariant-loop decreases-loop
+byte_before-requires c κs = (c.requires, c.lowest-i.ensures.within)
 
-insert-requires : tie.Need-insert-requires invariant-loop decreases-loop
-insert-requires c κs = c.before.before.before.lowest.ensures.within
+insert-after-requires : tie.Need-insert-after-requires invariant-loop decreases-loop
+insert-after-requires c κs = c.lowest-i.ensures.within
 
-loop-less : tie.Need-loop-smaller invariant-loop decreases-loop
-loop-less c = omega (arith, c.before.before.before.without_lowest_lem.ensures.fewer)
+loop-rest-smaller-then-byte_before : tie.Need-loop-rest-smaller-then-byte_before invariant-loop decreases-loop
+loop-rest-smaller-then-byte_before c = omega (arith, c.without_lowest-rest.ensures.fewer)
 
-loop-again : tie.Need-loop-preserved invariant-loop decreases-loop
-loop-again c =
-    let l = c.before.before.before.before.before.before.loop in
-    let i = c.before.before.before.before.lowest in
-    let r = c.before.before.before.without_lowest_lem.ensures in
+loop-rest-preserved-then-byte_before : tie.Need-loop-rest-preserved-then-byte_before invariant-loop decreases-loop
+loop-rest-preserved-then-byte_before c =
+    let l = c.loop-rest in
+    let i = c.lowest-i in
+    let r = c.without_lowest-rest.ensures in
     let t = turn l.invariant.1 i.ensures r in
-    let e = sym c.before.before.byte-before.ensures ∙ c.before.if1.true in
-    (omega (arith, r.below, l.invariant.0), t.within, rw (t.passed, c.insert.ensures) (after_with i.result l.invariant.2 e))
+    let e = sym c.byte_before.ensures ∙ c.if-byte_before.true in
+    (omega (arith, r.below, l.invariant.0), t.within, rw (t.passed, c.insert-after.ensures) (after_with i.result l.invariant.2 e))
 
-loop-less-2 : tie.Need-loop-smaller-2 invariant-loop decreases-loop
-loop-less-2 c = omega (arith, c.before.before.without_lowest_lem.ensures.fewer)
+loop-rest-smaller : tie.Need-loop-rest-smaller invariant-loop decreases-loop
+loop-rest-smaller c = omega (arith, c.without_lowest-rest.ensures.fewer)
 
-loop-again-2 : tie.Need-loop-preserved-2 invariant-loop decreases-loop
-loop-again-2 c =
-    let l = c.before.before.before.before.before.loop in
-    let i = c.before.before.before.lowest in
-    let r = c.before.before.without_lowest_lem.ensures in
+loop-rest-preserved : tie.Need-loop-rest-preserved invariant-loop decreases-loop
+loop-rest-preserved c =
+    let l = c.loop-rest in
+    let i = c.lowest-i in
+    let r = c.without_lowest-rest.ensures in
     let t = turn l.invariant.1 i.ensures r in
-    let e = sym c.before.byte-before.ensures ∙ c.if1.false in
+    let e = sym c.byte_before.ensures ∙ c.if-byte_before.false in
     (omega (arith, r.below, l.invariant.0), t.within, rw t.passed (after_less i.result l.invariant.2 e))
 
 returns : tie.Need-returns invariant-loop decreases-loop
-returns c = rw (c.loop-test.false, diff_zero) at c.before.loop.invariant.2
+returns c = rw (c.loop-rest-test.false, diff_zero) at c.loop-rest.invariant.2
 
-pub after-byte-spec : {M : Type 1} → statement M
-after-byte-spec =
-    tie.close
-    (tie.spec
-    invariant-loop
-    decreases-loop
-    loop-holds
-    lowest-requires
-    without-lowest-requires
-    byte-before-requires
-    insert-requires
-    loop-less
-    loop-again
-    loop-less-2
-    loop-again-2
-    returns)
+pub after_byte_spec : {M : Type 1} → statement M
+after_byte_spec = tie.close (tie.spec invariant-loop decreases-loop loop-rest-init lowest-i-requires without_lowest-rest-requires byte_before-requires insert-after-requires loop-rest-smaller-then-byte_before loop-rest-preserved-then-byte_before loop-rest-smaller loop-rest-preserved returns)

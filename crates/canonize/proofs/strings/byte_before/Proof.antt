@@ -9,29 +9,27 @@ use Rattle.canonize.proofs.Slots.{byte_empty, byte_first}
 use Rattle.canonize.proofs.strings.byte_before.Statement.{statement}
 use Rattle.canonize.proofs.strings.byte_before.Tie as tie
 
-slot-length-requires : tie.Need-slot-length-requires
-slot-length-requires c κs = search rules
+slot_length-requires : tie.Need-slot_length-requires
+slot_length-requires c κs = search rules
 
-returns : tie.Need-returns
-returns c =
-    let a = c.before.before.before.args in
-    sym (byte_empty a.slate.now a.e a.i (sym c.before.slot_length_lem.ensures.0 ∙ c.if1.true))
+returns-then-slot_length-eq0 : tie.Need-returns-then-slot_length-eq0
+returns-then-slot_length-eq0 c =
+    let a = c.args in
+    sym (byte_empty a.slate.now a.e a.i (sym c.slot_length.ensures.0 ∙ c.if-slot_length-eq0.true))
 
 start-requires : tie.Need-start-requires
 start-requires c κs = search rules
 
-shared-slice-read-result : tie.Need-shared-slice-read-result
-shared-slice-read-result c = search rules
+bounds-slate-start : tie.Need-bounds-slate-start
+bounds-slate-start c = search rules
 
-returns-2 : tie.Need-returns-2
-returns-2 c =
-    let a = c.before.before.before.before.before.args in
-    let p = c.before.before.before.before.before.requires in
-    ap (λ (n : ℕ). leb a.e (get_or a.slate.now n 0)) c.before.start.ensures
+returns : tie.Need-returns
+returns c =
+    let a = c.args in
+    let p = c.requires in
+    ap (λ (n : ℕ). leb a.e (get_or a.slate.now n 0)) c.start.ensures
     ∙ sym (byte_first a.slate.now a.e a.i p.0 (omega (arith, p.1))
-    (λ z. c.before.before.if1.false (c.before.before.before.slot_length_lem.ensures.0 ∙ z)))
+    (λ z. c.if-slot_length-eq0.false (c.slot_length.ensures.0 ∙ z)))
 
-pub byte-before-spec : {M : Type 1} → statement M
-byte-before-spec =
-    tie.close
-    (tie.spec slot-length-requires returns start-requires shared-slice-read-result returns-2)
+pub byte_before_spec : {M : Type 1} → statement M
+byte_before_spec = tie.close (tie.spec slot_length-requires returns-then-slot_length-eq0 start-requires bounds-slate-start returns)

@@ -12,85 +12,68 @@ use Rattle.canonize.proofs.Passing.{turn, passed_none, least_one, least_stays, l
 use Rattle.canonize.proofs.strings.least.Statement.{statement}
 use Rattle.canonize.proofs.strings.least.Tie as tie
 
-abbrev invariant-loop : tie.invariant-loop
+abbrev invariant-loop : tie.invariant-loop-rest
 invariant-loop slate set best₀ rest₀ best rest = (best < 64) × (rest < 2 ^ 64) × Sub rest set × Least (slot slate) (diff set rest) best
 
-abbrev decreases-loop : tie.decreases-loop
+abbrev decreases-loop : tie.decreases-loop-rest
 decreases-loop slate set best₀ rest₀ best rest = size rest
 
-lowest-requires : tie.Need-lowest-requires invariant-loop decreases-loop
-lowest-requires c κs = c.before.requires.1
+lowest-best-requires : tie.Need-lowest-best-requires invariant-loop decreases-loop
+lowest-best-requires c κs = c.requires.1
 
-without-lowest-requires : tie.Need-without-lowest-requires invariant-loop decreases-loop
-without-lowest-requires c κs = c.before.before.requires.1
+without_lowest-rest-requires : tie.Need-without_lowest-rest-requires invariant-loop decreases-loop
+without_lowest-rest-requires c κs = c.requires.1
 
-loop-holds : tie.Need-loop-init invariant-loop decreases-loop
-loop-holds c =
-    let s = c.before.before.before.args.set in
-    let i = c.before.lowest in
-    let t = turn (and_self s) i.ensures c.without_lowest_lem.ensures in
+loop-rest-init : tie.Need-loop-rest-init invariant-loop decreases-loop
+loop-rest-init c =
+    let s = c.args.set in
+    let i = c.lowest-best in
+    let t = turn (and_self s) i.ensures c.without_lowest-rest.ensures in
     (i.ensures.within, search rules, t.within, rw (t.passed, passed_none s) (least_one i.result))
 
-lowest-requires-2 : tie.Need-lowest-requires-2 invariant-loop decreases-loop
-lowest-requires-2 c κs = omega arith
+lowest-i-requires : tie.Need-lowest-i-requires invariant-loop decreases-loop
+lowest-i-requires c κs = omega arith
 
-without-lowest-requires-2 : tie.Need-without-lowest-requires-2 invariant-loop decreases-loop
-without-lowest-requires-2 c κs = omega arith
+without_lowest-rest-requires-in-loop-rest : tie.Need-without_lowest-rest-requires-in-loop-rest invariant-loop decreases-loop
+without_lowest-rest-requires-in-loop-rest c κs = omega arith
 
-cast-slot-before : tie.Need-overflow-cast-slot-before invariant-loop decreases-loop
-cast-slot-before c = omega arith
+overflow_cast-best : tie.Need-overflow_cast-best invariant-loop decreases-loop
+overflow_cast-best c = omega arith
 
-cast-slot-before-2 : tie.Need-overflow-cast-slot-before-2 invariant-loop decreases-loop
-cast-slot-before-2 c = omega arith
+overflow_cast-i : tie.Need-overflow_cast-i invariant-loop decreases-loop
+overflow_cast-i c = omega arith
 
-slot-before-requires : tie.Need-slot-before-requires invariant-loop decreases-loop
-slot-before-requires c κs =
-    let l = c.before.before.before.loop in
-    (c.before.before.before.before.before.before.before.requires.0, omega (arith, l.invariant.0), omega (arith, c.before.lowest2.ensures.within))
+slot_before-requires : tie.Need-slot_before-requires invariant-loop decreases-loop
+slot_before-requires c κs =
+    let l = c.loop-rest in
+    (c.requires.0, omega (arith, l.invariant.0), omega (arith, c.lowest-i.ensures.within))
 
-loop-less : tie.Need-loop-smaller invariant-loop decreases-loop
-loop-less c = omega (arith, c.before.before.without-lowest2.ensures.fewer)
+loop-rest-smaller-then-slot_before : tie.Need-loop-rest-smaller-then-slot_before invariant-loop decreases-loop
+loop-rest-smaller-then-slot_before c = omega (arith, c.without_lowest-rest-in-loop-rest.ensures.fewer)
 
-loop-again : tie.Need-loop-preserved invariant-loop decreases-loop
-loop-again c =
-    let l = c.before.before.before.before.before.loop in
-    let i = c.before.before.before.lowest2 in
-    let r = c.before.before.without-lowest2.ensures in
+loop-rest-preserved-then-slot_before : tie.Need-loop-rest-preserved-then-slot_before invariant-loop decreases-loop
+loop-rest-preserved-then-slot_before c =
+    let l = c.loop-rest in
+    let i = c.lowest-i in
+    let r = c.without_lowest-rest-in-loop-rest.ensures in
     let t = turn l.invariant.2 i.ensures r in
-    let e = sym c.before.slot-before.ensures ∙ c.if1.true in
+    let e = sym c.slot_before.ensures ∙ c.if-slot_before.true in
     (l.invariant.0, omega (arith, r.below, l.invariant.1), t.within, rw t.passed (least_stays i.result l.invariant.3 e))
 
-loop-less-2 : tie.Need-loop-smaller-2 invariant-loop decreases-loop
-loop-less-2 c = omega (arith, c.before.before.without-lowest2.ensures.fewer)
+loop-rest-smaller : tie.Need-loop-rest-smaller invariant-loop decreases-loop
+loop-rest-smaller c = omega (arith, c.without_lowest-rest-in-loop-rest.ensures.fewer)
 
-loop-again-2 : tie.Need-loop-preserved-2 invariant-loop decreases-loop
-loop-again-2 c =
-    let l = c.before.before.before.before.before.loop in
-    let i = c.before.before.before.lowest2 in
-    let r = c.before.before.without-lowest2.ensures in
+loop-rest-preserved : tie.Need-loop-rest-preserved invariant-loop decreases-loop
+loop-rest-preserved c =
+    let l = c.loop-rest in
+    let i = c.lowest-i in
+    let r = c.without_lowest-rest-in-loop-rest.ensures in
     let t = turn l.invariant.2 i.ensures r in
-    let e = sym c.before.slot-before.ensures ∙ c.if1.false in
+    let e = sym c.slot_before.ensures ∙ c.if-slot_before.false in
     (i.ensures.within, omega (arith, r.below, l.invariant.1), t.within, rw t.passed (least_moves i.result l.invariant.3 e))
 
 returns : tie.Need-returns invariant-loop decreases-loop
-returns c = rw (c.loop-test.false, diff_zero) at c.before.loop.invariant.3
+returns c = rw (c.loop-rest-test.false, diff_zero) at c.loop-rest.invariant.3
 
-pub least-spec : {M : Type 1} → statement M
-least-spec =
-    tie.close
-    (tie.spec
-    invariant-loop
-    decreases-loop
-    lowest-requires
-    without-lowest-requires
-    loop-holds
-    lowest-requires-2
-    without-lowest-requires-2
-    cast-slot-before
-    cast-slot-before-2
-    slot-before-requires
-    loop-less
-    loop-again
-    loop-less-2
-    loop-again-2
-    returns)
+pub least_spec : {M : Type 1} → statement M
+least_spec = tie.close (tie.spec invariant-loop decreases-loop lowest-best-requires without_lowest-rest-requires loop-rest-init lowest-i-requires without_lowest-rest-requires-in-loop-rest overflow_cast-best overflow_cast-i slot_before-requires loop-rest-smaller-then-slot_before loop-rest-preserved-then-slot_before loop-rest-smaller loop-rest-preserved returns)

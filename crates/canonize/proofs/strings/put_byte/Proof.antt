@@ -7,40 +7,30 @@ use Rattle.canonize.proofs.Writing.{wrote_own}
 use Rattle.canonize.proofs.strings.put_byte.Statement.{statement}
 use Rattle.canonize.proofs.strings.put_byte.Tie as tie
 
-slice-write-slate : tie.Need-slice-write-slate
-slice-write-slate c = search rules
+bounds-slate-place : tie.Need-bounds-slate-place
+bounds-slate-place c = search rules
 
-add-slate : tie.Need-overflow-add-slate
-add-slate c = search rules
+overflow_add-slate : tie.Need-overflow_add-slate
+overflow_add-slate c = search rules
 
-slice-write-slate-2 : tie.Need-slice-write-slate-2
-slice-write-slate-2 c = simp length-set (omega arith)
+bounds-slate-place-2 : tie.Need-bounds-slate-place-2
+bounds-slate-place-2 c = simp length-set (omega arith)
 
-add-slate-2 : tie.Need-overflow-add-slate-2
-add-slate-2 c = search rules
+overflow_add-slate-2 : tie.Need-overflow_add-slate-2
+overflow_add-slate-2 c = search rules
 
-slice-write-slate-3 : tie.Need-slice-write-slate-3
-slice-write-slate-3 c = simp length-set (omega arith)
+bounds-slate-place-3 : tie.Need-bounds-slate-place-3
+bounds-slate-place-3 c = simp length-set (omega arith)
 
-add-result : tie.Need-overflow-add-result
-add-result c = search rules
+overflow_add-result : tie.Need-overflow_add-result
+overflow_add-result c = search rules
 
-same_length : tie.Need-same-length
-same_length c = search rules
+shape_of-slate : tie.Need-shape_of-slate
+shape_of-slate c = search rules
 
 returns : tie.Need-returns
 unfolding wrap
 returns c = wrote_own c.args.slate.now c.args.place c.args.e c.requires
 
-pub put-byte-spec : {M : Type 1} → statement M
-put-byte-spec =
-    tie.close
-    (tie.spec
-    slice-write-slate
-    add-slate
-    slice-write-slate-2
-    add-slate-2
-    slice-write-slate-3
-    add-result
-    same_length
-    returns)
+pub put_byte_spec : {M : Type 1} → statement M
+put_byte_spec = tie.close (tie.spec bounds-slate-place overflow_add-slate bounds-slate-place-2 overflow_add-slate-2 bounds-slate-place-3 overflow_add-result shape_of-slate returns)

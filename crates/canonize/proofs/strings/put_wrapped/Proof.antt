@@ -8,53 +8,44 @@ use Rattle.canonize.proofs.Writing.{wrapped_length, wrapped_end, wrapped_wrote}
 use Rattle.canonize.proofs.strings.put_wrapped.Statement.{statement}
 use Rattle.canonize.proofs.strings.put_wrapped.Tie as tie
 
-slice-write-slate : tie.Need-slice-write-slate
-slice-write-slate c = search rules
+bounds-slate-place : tie.Need-bounds-slate-place
+bounds-slate-place c = search rules
 
-add-copy : tie.Need-overflow-add-copy
-add-copy c = search rules
+overflow_add-place : tie.Need-overflow_add-place
+overflow_add-place c = search rules
 
-copy-requires : tie.Need-copy-requires
-copy-requires c κs =
-    let a = c.before.before.args in
-    let p = c.before.before.requires in (
+copy-end-requires : tie.Need-copy-end-requires
+copy-end-requires c κs =
+    let a = c.args in
+    let p = c.requires in (
       ⊎_elim (λ (h : a.from + a.n ≤ a.place). inl (omega arith)) (λ (h : a.place + (a.n + 2) ≤ a.from). inr (omega arith)) p.0,
       simp length-set p.1,
       simp length-set (omega (arith, p.2)),
     )
 
-slice-write-slate-2 : tie.Need-slice-write-slate-2
-slice-write-slate-2 c =
-    let a = c.before.before.before.before.before.args in
-    let p = c.before.before.before.before.before.requires in
-    wrapped_end a.slate.now a.from a.n a.place p.0 p.1 p.2 c.before.before.copy.ensures
+bounds-slate-end : tie.Need-bounds-slate-end
+bounds-slate-end c =
+    let a = c.args in
+    let p = c.requires in
+    wrapped_end a.slate.now a.from a.n a.place p.0 p.1 p.2 c.copy-end.ensures
 
-add-result : tie.Need-overflow-add-result
-add-result c =
-    let a = c.before.before.before.before.before.args in
-    let p = c.before.before.before.before.before.requires in
-    omega (arith, slice-write-slate-2 c, wrapped_length a.slate.now a.from a.n a.place p.0 p.1 p.2 c.before.before.copy.ensures)
+overflow_add-result : tie.Need-overflow_add-result
+overflow_add-result c =
+    let a = c.args in
+    let p = c.requires in
+    omega (arith, bounds-slate-end c, wrapped_length a.slate.now a.from a.n a.place p.0 p.1 p.2 c.copy-end.ensures)
 
-same_length : tie.Need-same-length
-same_length c =
-    let a = c.before.before.before.before.before.args in
-    let p = c.before.before.before.before.before.requires in
-    simp length-set (wrapped_length a.slate.now a.from a.n a.place p.0 p.1 p.2 c.before.before.copy.ensures)
+shape_of-slate : tie.Need-shape_of-slate
+shape_of-slate c =
+    let a = c.args in
+    let p = c.requires in
+    simp length-set (wrapped_length a.slate.now a.from a.n a.place p.0 p.1 p.2 c.copy-end.ensures)
 
 returns : tie.Need-returns
 returns c =
-    let a = c.before.before.before.before.before.args in
-    let p = c.before.before.before.before.before.requires in
-    wrapped_wrote a.slate.now a.from a.n a.place p.0 p.1 p.2 c.before.before.copy.ensures
+    let a = c.args in
+    let p = c.requires in
+    wrapped_wrote a.slate.now a.from a.n a.place p.0 p.1 p.2 c.copy-end.ensures
 
-pub put-wrapped-spec : {M : Type 1} → statement M
-put-wrapped-spec =
-    tie.close
-    (tie.spec
-    slice-write-slate
-    add-copy
-    copy-requires
-    slice-write-slate-2
-    add-result
-    same_length
-    returns)
+pub put_wrapped_spec : {M : Type 1} → statement M
+put_wrapped_spec = tie.close (tie.spec bounds-slate-place overflow_add-place copy-end-requires bounds-slate-end overflow_add-result shape_of-slate returns)

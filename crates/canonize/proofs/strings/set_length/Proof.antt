@@ -6,43 +6,32 @@ use Rattle.canonize.proofs.Slots.{slot_set}
 use Rattle.canonize.proofs.strings.set_length.Statement.{statement}
 use Rattle.canonize.proofs.strings.set_length.Tie as tie
 
-cast-slate : tie.Need-overflow-cast-slate
-cast-slate c = search rules
+overflow_cast-slate : tie.Need-overflow_cast-slate
+overflow_cast-slate c = search rules
 
-mul-slate : tie.Need-overflow-mul-slate
-mul-slate c = search rules
+overflow_mul-slate : tie.Need-overflow_mul-slate
+overflow_mul-slate c = search rules
 
-slice-write-slate : tie.Need-slice-write-slate
-slice-write-slate c = search rules
+bounds-slate-i : tie.Need-bounds-slate-i
+bounds-slate-i c = search rules
 
-cast-slate-2 : tie.Need-overflow-cast-slate-2
-cast-slate-2 c = search rules
+overflow_cast-slate-2 : tie.Need-overflow_cast-slate-2
+overflow_cast-slate-2 c = search rules
 
-mul-slate-2 : tie.Need-overflow-mul-slate-2
-mul-slate-2 c = search rules
+overflow_mul-slate-2 : tie.Need-overflow_mul-slate-2
+overflow_mul-slate-2 c = search rules
 
-add-slate : tie.Need-overflow-add-slate
-add-slate c = search rules
+overflow_add-slate : tie.Need-overflow_add-slate
+overflow_add-slate c = search rules
 
-slice-write-slate-2 : tie.Need-slice-write-slate-2
-slice-write-slate-2 c = simp length-set (omega arith)
+bounds-slate-i-2 : tie.Need-bounds-slate-i-2
+bounds-slate-i-2 c = simp length-set (omega arith)
 
-same_length : tie.Need-same-length
-same_length c = search rules
+shape_of-slate : tie.Need-shape_of-slate
+shape_of-slate c = search rules
 
 returns : tie.Need-returns
 returns c = slot_set c.args.slate.now c.requires.0 c.args.i c.args.n c.requires.1 c.requires.2
 
-pub set-length-spec : {M : Type 1} → statement M
-set-length-spec =
-    tie.close
-    (tie.spec
-    cast-slate
-    mul-slate
-    slice-write-slate
-    cast-slate-2
-    mul-slate-2
-    add-slate
-    slice-write-slate-2
-    same_length
-    returns)
+pub set_length_spec : {M : Type 1} → statement M
+set_length_spec = tie.close (tie.spec overflow_cast-slate overflow_mul-slate bounds-slate-i overflow_cast-slate-2 overflow_mul-slate-2 overflow_add-slate bounds-slate-i-2 shape_of-slate returns)

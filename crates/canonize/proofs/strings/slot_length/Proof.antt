@@ -5,57 +5,45 @@ use Rattle.canonize.specs.Inner.Slate.{slot_length}
 use Rattle.canonize.proofs.strings.slot_length.Statement.{statement}
 use Rattle.canonize.proofs.strings.slot_length.Tie as tie
 
-mul_wide : tie.Need-overflow-mul-wide
-mul_wide c = search rules
+overflow_mul-i : tie.Need-overflow_mul-i
+overflow_mul-i c = search rules
 
-shared-slice-read-wide : tie.Need-shared-slice-read-wide
-shared-slice-read-wide c = search rules
+bounds-slate-i : tie.Need-bounds-slate-i
+bounds-slate-i c = search rules
 
-wide-requires : tie.Need-wide-requires
-wide-requires c κs = search rules
+wide-low-requires : tie.Need-wide-low-requires
+wide-low-requires c κs = search rules
 
-mul-wide-2 : tie.Need-overflow-mul-wide-2
-mul-wide-2 c = search rules
+overflow_mul-i-2 : tie.Need-overflow_mul-i-2
+overflow_mul-i-2 c = search rules
 
-add_wide : tie.Need-overflow-add-wide
-add_wide c = search rules
+overflow_add-i : tie.Need-overflow_add-i
+overflow_add-i c = search rules
 
-shared-slice-read-wide-2 : tie.Need-shared-slice-read-wide-2
-shared-slice-read-wide-2 c = search rules
+bounds-slate-i-2 : tie.Need-bounds-slate-i-2
+bounds-slate-i-2 c = search rules
 
-wide-requires-2 : tie.Need-wide-requires-2
-wide-requires-2 c κs = search rules
+wide-high-requires : tie.Need-wide-high-requires
+wide-high-requires c κs = search rules
 
-mul-result : tie.Need-overflow-mul-result
-mul-result c = search rules
+overflow_mul-result : tie.Need-overflow_mul-result
+overflow_mul-result c = search rules
 
-add-result : tie.Need-overflow-add-result
-add-result c = search rules
+overflow_add-result : tie.Need-overflow_add-result
+overflow_add-result c = search rules
 
 returns : tie.Need-returns
 unfolding slot_length
 returns c = (
-  omega (arith, c.wide2.ensures, c.before.before.wide.ensures),
+  omega (arith, c.wide-high.ensures, c.wide-low.ensures),
   omega (
     arith,
-    c.wide2.ensures,
-    c.before.before.wide.ensures,
-    c.before.before.before.before.before.requires.0.fits
-        c.before.before.before.before.before.args.i c.before.before.before.before.before.requires.1,
+    c.wide-high.ensures,
+    c.wide-low.ensures,
+    c.requires.0.fits
+        c.args.i c.requires.1,
   ),
 )
 
-pub slot-length-spec : {M : Type 1} → statement M
-slot-length-spec =
-    tie.close
-    (tie.spec
-    mul_wide
-    shared-slice-read-wide
-    wide-requires
-    mul-wide-2
-    add_wide
-    shared-slice-read-wide-2
-    wide-requires-2
-    mul-result
-    add-result
-    returns)
+pub slot_length_spec : {M : Type 1} → statement M
+slot_length_spec = tie.close (tie.spec overflow_mul-i bounds-slate-i wide-low-requires overflow_mul-i-2 overflow_add-i bounds-slate-i-2 wide-high-requires overflow_mul-result overflow_add-result returns)
