@@ -157,7 +157,7 @@ place_once gs x l o n =
     (λ j. not-nil j, tt)
 
 -- one group for one key
-one_group : {gs : List Group} (g h : Group) → Keys gs → Mem g gs → Mem h gs → g.key ≡ h.key → g ≡ h
+one_group : (g h : Group) {gs : List Group} → Keys gs → Mem g gs → Mem h gs → g.key ≡ h.key → g ≡ h
 one_group g h k (m_head a) (m_head b) e = a ∙ sym b
 one_group g h k (m_head {x = z} a) (m_tail b) e = absurd (before_differ z.key h.key (k.0 h b) (sym (ap (λ (w : Group). w.key) a) ∙ e))
 one_group g h k (m_tail a) (m_head {x = z} b) e = absurd (before_differ z.key g.key (k.0 g a) (sym (ap (λ (w : Group). w.key) b) ∙ sym e))
@@ -177,10 +177,10 @@ module _ (r : Bytes) where
   fold_old [] gs y l w = w
   fold_old (x ∷ xs) gs y l w = fold_old xs (place gs x (label r x)) y l (place_old gs x (label r x) y l w)
 
-  fold_new : {xs : List ℕ} (gs : List Group) {y : ℕ} → Mem y xs → Filed (filed gs xs) y (label r y)
-  fold_new gs {y} (m_head {x = x} {xs = xs} e) =
+  fold_new : {y : ℕ} {xs : List ℕ} (gs : List Group) → Mem y xs → Filed (filed gs xs) y (label r y)
+  fold_new {y} gs (m_head {x = x} {xs = xs} e) =
       subst (λ (z : ℕ). Filed (filed (place gs x (label r x)) xs) z (label r z)) (sym e) (fold_old xs (place gs x (label r x)) x (label r x) (place_new gs x (label r x)))
-  fold_new gs {y} (m_tail {x = x} {xs = xs} m) = fold_new (place gs x (label r x)) m
+  fold_new {y} gs (m_tail {x = x} {xs = xs} m) = fold_new (place gs x (label r x)) m
 
   fold_every : (P : ℕ → Bytes → Type 0) (xs : List ℕ) (gs : List Group) → Every P gs → ((x : ℕ) → Mem x xs → P x (label r x)) → Every P (filed gs xs)
   fold_every P [] gs a h = a

@@ -101,9 +101,9 @@ notes_old : (xs l : List ℕ) (y : ℕ) → Mem y l → Mem y (fold note l xs)
 notes_old [] l y m = m
 notes_old (x ∷ xs) l y m = notes_old xs (note l x) y (note_old l x y m)
 
-notes_has : {xs : List ℕ} (l : List ℕ) {y : ℕ} → Mem y xs → Mem y (fold note l xs)
-notes_has l {y} (m_head {x = x} {xs = xs} e) = notes_old xs (note l x) y (mem_cast e (note_new l x))
-notes_has l {y} (m_tail {x = x} {xs = xs} m) = notes_has (note l x) m
+notes_has : {y : ℕ} {xs : List ℕ} (l : List ℕ) → Mem y xs → Mem y (fold note l xs)
+notes_has {y} l (m_head {x = x} {xs = xs} e) = notes_old xs (note l x) y (mem_cast e (note_new l x))
+notes_has {y} l (m_tail {x = x} {xs = xs} m) = notes_has (note l x) m
 
 notes_distinct : (xs l : List ℕ) → Distinct l → Distinct (fold note l xs)
 notes_distinct [] l d = d
@@ -126,9 +126,9 @@ module _ (f : ℕ → List ℕ) where
   all_old [] l y m = m
   all_old (p ∷ ps) l y m = all_old ps (fold note l (f p)) y (notes_old (f p) l y m)
 
-  pub all_has : {ps : List ℕ} (l : List ℕ) {p y : ℕ} → Mem p ps → Mem y (f p) → Mem y (noted l ps)
-  all_has l {p} {y} (m_head {x = q} {xs = ps} e) m = all_old ps (fold note l (f q)) y (notes_has l (subst (λ (z : ℕ). Mem y (f z)) e m))
-  all_has l {p} {y} (m_tail {x = q} {xs = ps} k) m = all_has (fold note l (f q)) k m
+  pub all_has : {p : ℕ} {ps : List ℕ} (l : List ℕ) {y : ℕ} → Mem p ps → Mem y (f p) → Mem y (noted l ps)
+  all_has {p} l {y} (m_head {x = q} {xs = ps} e) m = all_old ps (fold note l (f q)) y (notes_has l (subst (λ (z : ℕ). Mem y (f z)) e m))
+  all_has {p} l {y} (m_tail {x = q} {xs = ps} k) m = all_has (fold note l (f q)) k m
 
   pub all_distinct : (ps l : List ℕ) → Distinct l → Distinct (noted l ps)
   all_distinct [] l d = d

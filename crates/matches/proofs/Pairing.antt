@@ -236,22 +236,22 @@ module _ (P : ℕ → Type 0) where
 meet_matched : (x : ℕ) (t : Table) (y : ℕ) → Disjoint x y → Matched (meet x t y) x y
 meet_matched x t y d = subst (λ (z : Table). Matched z x y) (sym (meet_yes x t y (eq-eqb (bit_and x y) 0 d))) (link t x y, mem_right t.matches (m_head refl), met_names x t y)
 
-meets_matched : (x : ℕ) {l : List ℕ} (t : Table) {y : ℕ} → Mem y l → Disjoint x y → Matched (fold (meet x) t l) x y
-meets_matched x t {y} (m_head {x = z} {xs = l} e) d =
+meets_matched : (x : ℕ) {y : ℕ} {l : List ℕ} (t : Table) → Mem y l → Disjoint x y → Matched (fold (meet x) t l) x y
+meets_matched x {y} t (m_head {x = z} {xs = l} e) d =
     matched_grows (λ u. Unit {0}) (meet x t z) (fold (meet x) (meet x t z) l) (meets_grows (λ u. Unit {0}) x l (meet x t z) tt (λ u m. tt)) x y
     (subst (λ (u : ℕ). Matched (meet x t u) x y) e (meet_matched x t y d))
 meets_matched x t (m_tail {x = z} {xs = l} m) d = meets_matched x (meet x t z) m d
 
-pub pair_up_matched : {l : List ℕ} (t : Table) {x y : ℕ} → Mem x l → Mem y l → x ≢ y → Disjoint x y → Matched (pair_up t l) x y
+pub pair_up_matched : {x y : ℕ} {l : List ℕ} (t : Table) → Mem x l → Mem y l → x ≢ y → Disjoint x y → Matched (pair_up t l) x y
 unfolding pair_up
-pair_up_matched t {x} {y} (m_head {x = z} {xs = l} a) (m_head b) n d = absurd (n (a ∙ sym b))
-pair_up_matched t {x} {y} (m_head {x = z} {xs = l} a) (m_tail b) n d =
+pair_up_matched {x} {y} t (m_head {x = z} {xs = l} a) (m_head b) n d = absurd (n (a ∙ sym b))
+pair_up_matched {x} {y} t (m_head {x = z} {xs = l} a) (m_tail b) n d =
     matched_grows (λ u. Unit {0}) (fold (meet z) t l) (pair_up (fold (meet z) t l) l) (pair_up_grows (λ u. Unit {0}) l (fold (meet z) t l) (λ u m. tt)) x y
     (subst (λ (u : ℕ). Matched (fold (meet z) t l) u y) (sym a) (meets_matched z t b (subst (λ (u : ℕ). Disjoint u y) a d)))
-pair_up_matched t {x} {y} (m_tail {x = z} {xs = l} a) (m_head b) n d =
+pair_up_matched {x} {y} t (m_tail {x = z} {xs = l} a) (m_head b) n d =
     matched_grows (λ u. Unit {0}) (fold (meet z) t l) (pair_up (fold (meet z) t l) l) (pair_up_grows (λ u. Unit {0}) l (fold (meet z) t l) (λ u m. tt)) x y
     (matched_sym (fold (meet z) t l) y x (subst (λ (u : ℕ). Matched (fold (meet z) t l) u x) (sym b) (meets_matched z t a (subst (λ (u : ℕ). Disjoint u x) b (and_comm y x ∙ d)))))
-pair_up_matched t {x} {y} (m_tail {x = z} {xs = l} a) (m_tail b) n d = pair_up_matched (fold (meet z) t l) a b n d
+pair_up_matched {x} {y} t (m_tail {x = z} {xs = l} a) (m_tail b) n d = pair_up_matched (fold (meet z) t l) a b n d
 
 -- ---- nodes are without repetition
 
@@ -326,8 +326,8 @@ module _ (r : Bytes) (P : ℕ → Type 0) (pairs : (x y : ℕ) → P x → P y �
   groups_distinct [] t d = d
   groups_distinct (g ∷ gs) t d = groups_distinct gs (pair_up t g.sets) (pair_up_distinct g.sets t d)
 
-  groups_matched : {gs : List Group} (t : Table) {g : Group} {x y : ℕ} → ((g : Group) → Mem g gs → Alike r P g.key g.sets) → Mem g gs → Mem x g.sets → Mem y g.sets → x ≢ y → Disjoint x y → Matched (paired t gs) x y
-  groups_matched t {g} {x} {y} h (m_head {x = k} {xs = gs} e) a b n d =
+  groups_matched : {g : Group} {gs : List Group} (t : Table) {x y : ℕ} → ((g : Group) → Mem g gs → Alike r P g.key g.sets) → Mem g gs → Mem x g.sets → Mem y g.sets → x ≢ y → Disjoint x y → Matched (paired t gs) x y
+  groups_matched {g} t {x} {y} h (m_head {x = k} {xs = gs} e) a b n d =
       matched_grows P (pair_up t k.sets) (paired (pair_up t k.sets) gs) (groups_grows gs (pair_up t k.sets) (λ j m. h j (m_tail m))) x y
       (pair_up_matched t (subst (λ (j : Group). Mem x j.sets) e a) (subst (λ (j : Group). Mem y j.sets) e b) n d)
   groups_matched t h (m_tail {x = k} {xs = gs} m) a b n d = groups_matched (pair_up t k.sets) (λ j o. h j (m_tail o)) m a b n d

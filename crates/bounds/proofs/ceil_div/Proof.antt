@@ -5,22 +5,22 @@ use Rattle.bounds.proofs.Numbers.{ceil_up, ceil_small}
 use Rattle.bounds.proofs.ceil_div.Statement.{statement}
 use Rattle.bounds.proofs.ceil_div.Tie as tie
 
-sub-result : tie.Need-overflow-sub-result
-sub-result c = search rules
+overflow_sub-result : tie.Need-overflow_sub-result
+overflow_sub-result c = search rules
 
-div-result : tie.Need-nonzero-div-result
-div-result c = search rules
+nonzero_div-result : tie.Need-nonzero_div-result
+nonzero_div-result c = search rules
 
-add-result : tie.Need-overflow-add-result
-add-result c =
-    let a = c.before.args in
-    omega (arith, ceil_up a.x a.y (omega arith) c.before.requires, ceil_small a.x a.y c.before.requires)
+overflow_add-result : tie.Need-overflow_add-result
+overflow_add-result c =
+    let a = c.args in
+    omega (arith, ceil_up a.x a.y (omega arith) c.requires, ceil_small a.x a.y c.requires)
 
-returns : tie.Need-returns
-returns c = let a = c.before.args in omega (arith, ceil_small a.x a.y c.before.requires)
+returns-then-x-eq0 : tie.Need-returns-then-x-eq0
+returns-then-x-eq0 c = let a = c.args in omega (arith, ceil_small a.x a.y c.requires)
 
-returns-2 : tie.Need-returns-2
-returns-2 c = let a = c.before.args in ceil_up a.x a.y (omega arith) c.before.requires
+returns-else-x-eq0 : tie.Need-returns-else-x-eq0
+returns-else-x-eq0 c = let a = c.args in ceil_up a.x a.y (omega arith) c.requires
 
-pub ceil-div-spec : {M : Type 1} → statement M
-ceil-div-spec = tie.close (tie.spec sub-result div-result add-result returns returns-2)
+pub ceil_div_spec : {M : Type 1} → statement M
+ceil_div_spec = tie.close (tie.spec overflow_sub-result nonzero_div-result overflow_add-result returns-then-x-eq0 returns-else-x-eq0)

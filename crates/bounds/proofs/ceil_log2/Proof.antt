@@ -7,17 +7,17 @@ use Rattle.bounds.proofs.Numbers.{log_one, log_digits}
 use Rattle.bounds.proofs.ceil_log2.Statement.{statement}
 use Rattle.bounds.proofs.ceil_log2.Tie as tie
 
-sub-result : tie.Need-overflow-sub-result
-sub-result c = search rules
+overflow_sub-result : tie.Need-overflow_sub-result
+overflow_sub-result c = search rules
 
-sub-result-2 : tie.Need-overflow-sub-result-2
-sub-result-2 c = leading_le 32 _
+overflow_sub-result-else-t-eq0 : tie.Need-overflow_sub-result-else-t-eq0
+overflow_sub-result-else-t-eq0 c = leading_le 32 _
 
-returns : tie.Need-returns
-returns c = sym (log_one c.before.args.t (omega arith))
+returns-then-t-eq0 : tie.Need-returns-then-t-eq0
+returns-then-t-eq0 c = sym (log_one c.args.t (omega arith))
 
-returns-2 : tie.Need-returns-2
-returns-2 c = log_digits c.before.args.t (omega arith) (omega arith)
+returns-else-t-eq0 : tie.Need-returns-else-t-eq0
+returns-else-t-eq0 c = log_digits c.args.t (omega arith) (omega arith)
 
-pub ceil-log2-spec : {M : Type 1} → statement M
-ceil-log2-spec = tie.close (tie.spec sub-result sub-result-2 returns returns-2)
+pub ceil_log2_spec : {M : Type 1} → statement M
+ceil_log2_spec = tie.close (tie.spec overflow_sub-result overflow_sub-result-else-t-eq0 returns-then-t-eq0 returns-else-t-eq0)

@@ -8,44 +8,44 @@ use Rattle.bounds.proofs.Counting.{Summing, summing_start, summing_next, summing
 use Rattle.bounds.proofs.ceilings.Statement.{statement}
 use Rattle.bounds.proofs.ceilings.Tie as tie
 
-abbrev invariant-loop : tie.invariant-loop
+abbrev invariant-loop : tie.invariant-loop-i
 invariant-loop sizes t sum₀ i₀ sum i = Summing (λ (s : ℕ). ceil_div s t) sizes i sum
 
-abbrev decreases-loop : tie.decreases-loop
+abbrev decreases-loop : tie.decreases-loop-i
 decreases-loop sizes t sum₀ i₀ sum i = length sizes - i
 
-loop-holds : tie.Need-loop-init invariant-loop decreases-loop
-loop-holds c = summing_start (λ (s : ℕ). ceil_div s c.before.args.t) c.before.args.sizes.now
+loop-i-init : tie.Need-loop-i-init invariant-loop decreases-loop
+loop-i-init c = summing_start (λ (s : ℕ). ceil_div s c.args.t) c.args.sizes.now
 
-mul-ceil-div : tie.Need-overflow-mul-ceil-div invariant-loop decreases-loop
-mul-ceil-div c = search rules
+offset_bounds-sizes-i : tie.Need-offset_bounds-sizes-i invariant-loop decreases-loop
+offset_bounds-sizes-i c = search rules
 
-shared-slice-read-ceil-div : tie.Need-shared-slice-read-ceil-div invariant-loop decreases-loop
-shared-slice-read-ceil-div c = omega arith
+bounds-sizes-i : tie.Need-bounds-sizes-i invariant-loop decreases-loop
+bounds-sizes-i c = omega arith
 
-ceil-div-requires : tie.Need-ceil-div-requires invariant-loop decreases-loop
-ceil-div-requires c κs = c.before.before.before.before.requires.0
+ceil_div-sum-requires : tie.Need-ceil_div-sum-requires invariant-loop decreases-loop
+ceil_div-sum-requires c κs = c.requires.0
 
-add-sum : tie.Need-overflow-add-sum invariant-loop decreases-loop
-add-sum c =
-    let a = c.before.before.before.before.before.args in
-    omega (arith, summing_fits (λ (s : ℕ). ceil_div s a.t) a.sizes.now c.before.before.before.loop.i c.before.before.before.loop.sum c.ceil-div.result c.before.before.before.loop.invariant c.before.before.loop-test.true c.ceil-div.ensures, ceilings_le a.t a.sizes.now c.before.before.before.before.before.requires.0, c.before.before.before.before.before.requires.1)
+overflow_add-sum : tie.Need-overflow_add-sum invariant-loop decreases-loop
+overflow_add-sum c =
+    let a = c.args in
+    omega (arith, summing_fits (λ (s : ℕ). ceil_div s a.t) a.sizes.now c.loop-i.i c.loop-i.sum c.ceil_div-sum.result c.loop-i.invariant c.loop-i-test.true c.ceil_div-sum.ensures, ceilings_le a.t a.sizes.now c.requires.0, c.requires.1)
 
-add-i : tie.Need-overflow-add-i invariant-loop decreases-loop
-add-i c = omega arith
+overflow_add-i : tie.Need-overflow_add-i invariant-loop decreases-loop
+overflow_add-i c = omega arith
 
-loop-less : tie.Need-loop-smaller invariant-loop decreases-loop
-loop-less c = omega arith
+loop-i-smaller : tie.Need-loop-i-smaller invariant-loop decreases-loop
+loop-i-smaller c = omega arith
 
-loop-again : tie.Need-loop-preserved invariant-loop decreases-loop
-loop-again c =
-    let a = c.before.before.before.before.before.args in
-    summing_next (λ (s : ℕ). ceil_div s a.t) a.sizes.now c.before.before.before.loop.i c.before.before.before.loop.sum c.ceil-div.result c.before.before.before.loop.invariant c.before.before.loop-test.true c.ceil-div.ensures
+loop-i-preserved : tie.Need-loop-i-preserved invariant-loop decreases-loop
+loop-i-preserved c =
+    let a = c.args in
+    summing_next (λ (s : ℕ). ceil_div s a.t) a.sizes.now c.loop-i.i c.loop-i.sum c.ceil_div-sum.result c.loop-i.invariant c.loop-i-test.true c.ceil_div-sum.ensures
 
 returns : tie.Need-returns invariant-loop decreases-loop
 returns c =
-    let a = c.before.before.before.args in
-    summing_done (λ (s : ℕ). ceil_div s a.t) a.sizes.now c.before.loop.i c.before.loop.sum c.before.loop.invariant (omega arith)
+    let a = c.args in
+    summing_done (λ (s : ℕ). ceil_div s a.t) a.sizes.now c.loop-i.i c.loop-i.sum c.loop-i.invariant (omega arith)
 
-pub ceilings-spec : {M : Type 1} → statement M
-ceilings-spec = tie.close (tie.spec invariant-loop decreases-loop loop-holds mul-ceil-div shared-slice-read-ceil-div ceil-div-requires add-sum add-i loop-less loop-again returns)
+pub ceilings_spec : {M : Type 1} → statement M
+ceilings_spec = tie.close (tie.spec invariant-loop decreases-loop loop-i-init offset_bounds-sizes-i bounds-sizes-i ceil_div-sum-requires overflow_add-sum overflow_add-i loop-i-smaller loop-i-preserved returns)

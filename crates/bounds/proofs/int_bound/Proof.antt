@@ -6,25 +6,25 @@ use Rattle.bounds.proofs.Counting.{sizes_small, sizes_part}
 use Rattle.bounds.proofs.int_bound.Statement.{statement}
 use Rattle.bounds.proofs.int_bound.Tie as tie
 
-sizes-requires : tie.Need-sizes-requires
-sizes-requires c κs = search rules
+sizes-sizes-requires : tie.Need-sizes-sizes-requires
+sizes-sizes-requires c κs = search rules
 
-sub-largest-term : tie.Need-overflow-sub-largest-term
-sub-largest-term c = search rules
+slice_bounds-largest_term-count : tie.Need-slice_bounds-largest_term-count
+slice_bounds-largest_term-count c = search rules
 
-part-largest-term-start : tie.Need-slice-bounds-largest-term-start
-part-largest-term-start c = search rules
+slice_bounds-largest_term-start : tie.Need-slice_bounds-largest_term-start
+slice_bounds-largest_term-start c = search rules
 
-part-largest-term-end : tie.Need-slice-bounds-largest-term-end
-part-largest-term-end c = search rules
+slice_bounds-largest_term-end : tie.Need-slice_bounds-largest_term-end
+slice_bounds-largest_term-end c = search rules
 
-largest-term-requires : tie.Need-largest-term-requires
-largest-term-requires c κs =
-    let a = c.before.before.before.before.args in
-    (c.before.before.before.before.requires.1, rw (sizes_part a.pieces.now c.before.before.sizes.result c.before.before.sizes.ensures.1) (omega (arith, sizes_small a.pieces.now (λ i. omega (arith, c.before.before.before.shared-slice-known.given i)), c.before.before.before.before.requires.0)))
+largest_term-requires : tie.Need-largest_term-requires
+largest_term-requires c κs =
+    let a = c.args in
+    (c.requires.1, rw (sizes_part a.pieces.now c.sizes-sizes.result c.sizes-sizes.ensures.1) (omega (arith, sizes_small a.pieces.now (λ i. omega (arith, c.shared_slice_known-1.given i)), c.requires.0)))
 
 returns : tie.Need-returns
-returns c = let p = c.before.before.before.before.before.args.pieces.now in c.largest-term.ensures p (sym (sizes_part p c.before.before.before.sizes.result c.before.before.before.sizes.ensures.1))
+returns c = let p = c.args.pieces.now in c.largest_term.ensures p (sym (sizes_part p c.sizes-sizes.result c.sizes-sizes.ensures.1))
 
-pub int-bound-spec : {M : Type 1} → statement M
-int-bound-spec = tie.close (tie.spec sizes-requires sub-largest-term part-largest-term-start part-largest-term-end largest-term-requires returns)
+pub int_bound_spec : {M : Type 1} → statement M
+int_bound_spec = tie.close (tie.spec sizes-sizes-requires slice_bounds-largest_term-count slice_bounds-largest_term-start slice_bounds-largest_term-end largest_term-requires returns)

@@ -10,55 +10,55 @@ use Rattle.bounds.proofs.Counting.{Reached, reached_start, reached_more, reached
 use Rattle.bounds.proofs.largest_term.Statement.{statement}
 use Rattle.bounds.proofs.largest_term.Tie as tie
 
-abbrev invariant-loop : tie.invariant-loop
+abbrev invariant-loop : tie.invariant-loop-t
 invariant-loop sizes largest all best₀ t₀ best t = (2 ≤ t) × (t ≤ 65) × ((pieces : List ℕ) → map size pieces ≡ sizes → Reached pieces largest t best)
 
-abbrev decreases-loop : tie.decreases-loop
+abbrev decreases-loop : tie.decreases-loop-t
 decreases-loop sizes largest all best₀ t₀ best t = (largest + 1) - t
 
 -- the term of t
-term : (c : tie.After-less2 invariant-loop decreases-loop) (pieces : List ℕ) → map size pieces ≡ c.before.before.before.before.before.before.before.before.args.sizes.now → c.less2.result ≡ int_term ceil_log2 pieces c.before.before.before.before.before.loop.t
-term c pieces e = omega (arith, term_is pieces c.before.before.before.before.before.before.before.before.args.sizes.now c.before.before.before.before.before.loop.t e, c.less2.ensures, c.before.ceilings.ensures, c.before.before.less.ensures, c.before.before.before.ceil-log2.ensures, c.before.before.before.before.before.before.total.ensures)
+term : (c : tie.After-less-term invariant-loop decreases-loop) (pieces : List ℕ) → map size pieces ≡ c.args.sizes.now → c.less-term.result ≡ int_term ceil_log2 pieces c.loop-t.t
+term c pieces e = omega (arith, term_is pieces c.args.sizes.now c.loop-t.t e, c.less-term.ensures, c.ceilings.ensures, c.less.ensures, c.ceil_log2.ensures, c.total-all.ensures)
 
-total-requires : tie.Need-total-requires invariant-loop decreases-loop
-total-requires c κs = c.before.requires.1
+total-all-requires : tie.Need-total-all-requires invariant-loop decreases-loop
+total-all-requires c κs = c.requires.1
 
-loop-holds : tie.Need-loop-init invariant-loop decreases-loop
-loop-holds c = (omega arith, omega arith, λ pieces e. reached_start pieces c.before.before.args.largest)
+loop-t-init : tie.Need-loop-t-init invariant-loop decreases-loop
+loop-t-init c = (omega arith, omega arith, λ pieces e. reached_start pieces c.args.largest)
 
-ceil-log2-requires : tie.Need-ceil-log2-requires invariant-loop decreases-loop
-ceil-log2-requires c κs = tt
+ceil_log2-requires : tie.Need-ceil_log2-requires invariant-loop decreases-loop
+ceil_log2-requires c κs = tt
 
 less-requires : tie.Need-less-requires invariant-loop decreases-loop
 less-requires c κs = tt
 
 ceilings-requires : tie.Need-ceilings-requires invariant-loop decreases-loop
-ceilings-requires c κs = (omega arith, c.before.before.before.before.before.before.requires.1)
+ceilings-requires c κs = (omega arith, c.requires.1)
 
-less-requires-2 : tie.Need-less-requires-2 invariant-loop decreases-loop
-less-requires-2 c κs = tt
+less-term-requires : tie.Need-less-term-requires invariant-loop decreases-loop
+less-term-requires c κs = tt
 
-add-t : tie.Need-overflow-add-t invariant-loop decreases-loop
-add-t c = omega arith
+overflow_add-t : tie.Need-overflow_add-t invariant-loop decreases-loop
+overflow_add-t c = omega arith
 
-loop-less : tie.Need-loop-smaller invariant-loop decreases-loop
-loop-less c = omega arith
+loop-t-smaller-then-term-best : tie.Need-loop-t-smaller-then-term-best invariant-loop decreases-loop
+loop-t-smaller-then-term-best c = omega arith
 
-loop-again : tie.Need-loop-preserved invariant-loop decreases-loop
-loop-again c =
-    let l = c.before.before.before.before.before.before.loop in
-    (omega arith, omega arith, λ pieces e. reached_same pieces c.before.before.before.before.before.before.before.before.before.args.largest l.t l.best c.before.less2.result (l.invariant.2 pieces e) (omega (arith, c.before.before.before.before.before.loop-test.true)) (term c.before pieces e) (omega (arith, c.if1.true)))
+loop-t-preserved-then-term-best : tie.Need-loop-t-preserved-then-term-best invariant-loop decreases-loop
+loop-t-preserved-then-term-best c =
+    let l = c.loop-t in
+    (omega arith, omega arith, λ pieces e. reached_same pieces c.args.largest l.t l.best c.less-term.result (l.invariant.2 pieces e) (omega (arith, c.loop-t-test.true)) (term c.before pieces e) (omega (arith, c.if-term-best.true)))
 
-loop-less-2 : tie.Need-loop-smaller-2 invariant-loop decreases-loop
-loop-less-2 c = omega arith
+loop-t-smaller : tie.Need-loop-t-smaller invariant-loop decreases-loop
+loop-t-smaller c = omega arith
 
-loop-again-2 : tie.Need-loop-preserved-2 invariant-loop decreases-loop
-loop-again-2 c =
-    let l = c.before.before.before.before.before.before.loop in
-    (omega arith, omega arith, λ pieces e. reached_more pieces c.before.before.before.before.before.before.before.before.before.args.largest l.t l.best c.before.less2.result (l.invariant.2 pieces e) (omega (arith, c.before.before.before.before.before.loop-test.true)) (term c.before pieces e) (omega arith))
+loop-t-preserved : tie.Need-loop-t-preserved invariant-loop decreases-loop
+loop-t-preserved c =
+    let l = c.loop-t in
+    (omega arith, omega arith, λ pieces e. reached_more pieces c.args.largest l.t l.best c.less-term.result (l.invariant.2 pieces e) (omega (arith, c.loop-t-test.true)) (term c.before pieces e) (omega arith))
 
 returns : tie.Need-returns invariant-loop decreases-loop
-returns c = λ pieces e. reached_done pieces c.before.before.before.before.args.largest c.before.loop.t c.before.loop.best (c.before.loop.invariant.2 pieces e) (omega arith)
+returns c = λ pieces e. reached_done pieces c.args.largest c.loop-t.t c.loop-t.best (c.loop-t.invariant.2 pieces e) (omega arith)
 
-pub largest-term-spec : {M : Type 1} → statement M
-largest-term-spec = tie.close (tie.spec invariant-loop decreases-loop total-requires loop-holds ceil-log2-requires less-requires ceilings-requires less-requires-2 add-t loop-less loop-again loop-less-2 loop-again-2 returns)
+pub largest_term_spec : {M : Type 1} → statement M
+largest_term_spec = tie.close (tie.spec invariant-loop decreases-loop total-all-requires loop-t-init ceil_log2-requires less-requires ceilings-requires less-term-requires overflow_add-t loop-t-smaller-then-term-best loop-t-preserved-then-term-best loop-t-smaller loop-t-preserved returns)

@@ -6,56 +6,56 @@ use Rattle.bounds.proofs.Counting.{Leaving, leaving_start, leaving_found, leavin
 use Rattle.bounds.proofs.least_size.Statement.{statement}
 use Rattle.bounds.proofs.least_size.Tie as tie
 
-abbrev invariant-loop : tie.invariant-loop
+abbrev invariant-loop : tie.invariant-loop-k
 invariant-loop masks pieces index best largest k₀ k = (2 ≤ k) × (k ≤ 65) × Leaving (λ k. get_or masks k 0) pieces index best largest k
 
-abbrev decreases-loop : tie.decreases-loop
+abbrev decreases-loop : tie.decreases-loop-k
 decreases-loop masks pieces index best largest k₀ k = (largest + 1) - k
 
-loop-holds : tie.Need-loop-init invariant-loop decreases-loop
-loop-holds c = let a = c.before.before.args in (omega arith, omega arith, leaving_start (λ k. get_or a.masks.now k 0) a.pieces.now a.index a.best a.largest)
+loop-k-init : tie.Need-loop-k-init invariant-loop decreases-loop
+loop-k-init c = let a = c.args in (omega arith, omega arith, leaving_start (λ k. get_or a.masks.now k 0) a.pieces.now a.index a.best a.largest)
 
-shared-slice-read-usable-edges-bound : tie.Need-shared-slice-read-usable-edges-bound invariant-loop decreases-loop
-shared-slice-read-usable-edges-bound c = omega arith
+bounds-masks-2 : tie.Need-bounds-masks-2 invariant-loop decreases-loop
+bounds-masks-2 c = omega arith
 
-cast-usable-edges-bound : tie.Need-overflow-cast-usable-edges-bound invariant-loop decreases-loop
-cast-usable-edges-bound c = omega arith
+overflow_cast-k : tie.Need-overflow_cast-k invariant-loop decreases-loop
+overflow_cast-k c = omega arith
 
-mul-usable-edges-bound : tie.Need-overflow-mul-usable-edges-bound invariant-loop decreases-loop
-mul-usable-edges-bound c = omega arith
+offset_bounds-masks-k : tie.Need-offset_bounds-masks-k invariant-loop decreases-loop
+offset_bounds-masks-k c = omega arith
 
-shared-slice-read-usable-edges-bound-2 : tie.Need-shared-slice-read-usable-edges-bound-2 invariant-loop decreases-loop
-shared-slice-read-usable-edges-bound-2 c = omega arith
+bounds-masks-k : tie.Need-bounds-masks-k invariant-loop decreases-loop
+bounds-masks-k c = omega arith
 
-usable-edges-bound-requires : tie.Need-usable-edges-bound-requires invariant-loop decreases-loop
-usable-edges-bound-requires c κs =
-    let l = c.before.before.before.loop in
-    let p = c.before.before.before.before.before.before.requires in
-    (l.invariant.0, p.1, p.4 l.k l.invariant.0 (omega (arith, c.before.before.loop-test.true)))
+usable_edges_bound-bound-requires : tie.Need-usable_edges_bound-bound-requires invariant-loop decreases-loop
+usable_edges_bound-bound-requires c κs =
+    let l = c.loop-k in
+    let p = c.requires in
+    (l.invariant.0, p.1, p.4 l.k l.invariant.0 (omega (arith, c.loop-k-test.true)))
 
-add-if1 : tie.Need-overflow-add-if1 invariant-loop decreases-loop
-add-if1 c =
-    let a = c.before.before.before.before.before.before.before.args in
-    omega (arith, c.usable-edges-bound.ensures, usable_bound_small (get_or a.masks.now 2 0) (get_or a.masks.now c.before.before.before.before.loop.k 0) a.pieces.now c.before.before.before.before.loop.k (omega (arith, c.before.before.shared-slice-known3.given 2)), c.before.before.before.before.before.before.before.requires.1, c.before.before.before.before.before.before.before.requires.2)
+overflow_add-bound : tie.Need-overflow_add-bound invariant-loop decreases-loop
+overflow_add-bound c =
+    let a = c.args in
+    omega (arith, c.usable_edges_bound-bound.ensures, usable_bound_small (get_or a.masks.now 2 0) (get_or a.masks.now c.loop-k.k 0) a.pieces.now c.loop-k.k (omega (arith, c.shared_slice_known-in-loop-k-1.given 2)), c.requires.1, c.requires.2)
+
+returns-then-index-bound : tie.Need-returns-then-index-bound invariant-loop decreases-loop
+returns-then-index-bound c =
+    let a = c.args in
+    leaving_found (λ k. get_or a.masks.now k 0) a.pieces.now a.index a.best a.largest c.loop-k.k c.usable_edges_bound-bound.result c.loop-k.invariant.2 (omega (arith, c.loop-k-test.true)) c.usable_edges_bound-bound.ensures (omega (arith, c.if-index-bound.true))
+
+overflow_add-k : tie.Need-overflow_add-k invariant-loop decreases-loop
+overflow_add-k c = omega arith
+
+loop-k-smaller : tie.Need-loop-k-smaller invariant-loop decreases-loop
+loop-k-smaller c = omega arith
+
+loop-k-preserved : tie.Need-loop-k-preserved invariant-loop decreases-loop
+loop-k-preserved c =
+    let a = c.args in
+    (omega arith, omega arith, leaving_next (λ k. get_or a.masks.now k 0) a.pieces.now a.index a.best a.largest c.loop-k.k c.usable_edges_bound-bound.result c.loop-k.invariant.2 (omega (arith, c.loop-k-test.true)) c.usable_edges_bound-bound.ensures (omega arith))
 
 returns : tie.Need-returns invariant-loop decreases-loop
-returns c =
-    let a = c.before.before.before.before.before.before.before.before.args in
-    leaving_found (λ k. get_or a.masks.now k 0) a.pieces.now a.index a.best a.largest c.before.before.before.before.before.loop.k c.before.usable-edges-bound.result c.before.before.before.before.before.loop.invariant.2 (omega (arith, c.before.before.before.before.loop-test.true)) c.before.usable-edges-bound.ensures (omega (arith, c.if1.true))
+returns c = let a = c.args in leaving_done (λ k. get_or a.masks.now k 0) a.pieces.now a.index a.best a.largest c.loop-k.k c.loop-k.invariant.2 (omega arith)
 
-add-k : tie.Need-overflow-add-k invariant-loop decreases-loop
-add-k c = omega arith
-
-loop-less : tie.Need-loop-smaller invariant-loop decreases-loop
-loop-less c = omega arith
-
-loop-again : tie.Need-loop-preserved invariant-loop decreases-loop
-loop-again c =
-    let a = c.before.before.before.before.before.before.before.before.args in
-    (omega arith, omega arith, leaving_next (λ k. get_or a.masks.now k 0) a.pieces.now a.index a.best a.largest c.before.before.before.before.before.loop.k c.before.usable-edges-bound.result c.before.before.before.before.before.loop.invariant.2 (omega (arith, c.before.before.before.before.loop-test.true)) c.before.usable-edges-bound.ensures (omega arith))
-
-returns-2 : tie.Need-returns-2 invariant-loop decreases-loop
-returns-2 c = let a = c.before.before.before.before.args in leaving_done (λ k. get_or a.masks.now k 0) a.pieces.now a.index a.best a.largest c.before.loop.k c.before.loop.invariant.2 (omega arith)
-
-pub least-size-spec : {M : Type 1} → statement M
-least-size-spec = tie.close (tie.spec invariant-loop decreases-loop loop-holds shared-slice-read-usable-edges-bound cast-usable-edges-bound mul-usable-edges-bound shared-slice-read-usable-edges-bound-2 usable-edges-bound-requires add-if1 returns add-k loop-less loop-again returns-2)
+pub least_size_spec : {M : Type 1} → statement M
+least_size_spec = tie.close (tie.spec invariant-loop decreases-loop loop-k-init bounds-masks-2 overflow_cast-k offset_bounds-masks-k bounds-masks-k usable_edges_bound-bound-requires overflow_add-bound returns-then-index-bound overflow_add-k loop-k-smaller loop-k-preserved returns)

@@ -8,35 +8,35 @@ use Rattle.bounds.proofs.Counting.{Summing, summing_start, summing_next, summing
 use Rattle.bounds.proofs.total.Statement.{statement}
 use Rattle.bounds.proofs.total.Tie as tie
 
-abbrev invariant-loop : tie.invariant-loop
+abbrev invariant-loop : tie.invariant-loop-i
 invariant-loop sizes sum₀ i₀ sum i = Summing (λ (s : ℕ). s) sizes i sum
 
-abbrev decreases-loop : tie.decreases-loop
+abbrev decreases-loop : tie.decreases-loop-i
 decreases-loop sizes sum₀ i₀ sum i = length sizes - i
 
-loop-holds : tie.Need-loop-init invariant-loop decreases-loop
-loop-holds c = summing_start (λ (s : ℕ). s) c.args.sizes.now
+loop-i-init : tie.Need-loop-i-init invariant-loop decreases-loop
+loop-i-init c = summing_start (λ (s : ℕ). s) c.args.sizes.now
 
-mul-sum : tie.Need-overflow-mul-sum invariant-loop decreases-loop
-mul-sum c = search rules
+offset_bounds-sizes-i : tie.Need-offset_bounds-sizes-i invariant-loop decreases-loop
+offset_bounds-sizes-i c = search rules
 
-shared-slice-read-sum : tie.Need-shared-slice-read-sum invariant-loop decreases-loop
-shared-slice-read-sum c = omega arith
+bounds-sizes-i : tie.Need-bounds-sizes-i invariant-loop decreases-loop
+bounds-sizes-i c = omega arith
 
-add-sum : tie.Need-overflow-add-sum invariant-loop decreases-loop
-add-sum c = omega (arith, summing_fits (λ (s : ℕ). s) c.before.before.before.args.sizes.now c.before.before.loop.i c.before.before.loop.sum _ c.before.before.loop.invariant c.before.loop-test.true refl)
+overflow_add-sum : tie.Need-overflow_add-sum invariant-loop decreases-loop
+overflow_add-sum c = omega (arith, summing_fits (λ (s : ℕ). s) c.args.sizes.now c.loop-i.i c.loop-i.sum _ c.loop-i.invariant c.loop-i-test.true refl)
 
-add-i : tie.Need-overflow-add-i invariant-loop decreases-loop
-add-i c = omega arith
+overflow_add-i : tie.Need-overflow_add-i invariant-loop decreases-loop
+overflow_add-i c = omega arith
 
-loop-less : tie.Need-loop-smaller invariant-loop decreases-loop
-loop-less c = omega arith
+loop-i-smaller : tie.Need-loop-i-smaller invariant-loop decreases-loop
+loop-i-smaller c = omega arith
 
-loop-again : tie.Need-loop-preserved invariant-loop decreases-loop
-loop-again c = summing_next (λ (s : ℕ). s) c.before.before.before.args.sizes.now c.before.before.loop.i c.before.before.loop.sum _ c.before.before.loop.invariant c.before.loop-test.true refl
+loop-i-preserved : tie.Need-loop-i-preserved invariant-loop decreases-loop
+loop-i-preserved c = summing_next (λ (s : ℕ). s) c.args.sizes.now c.loop-i.i c.loop-i.sum _ c.loop-i.invariant c.loop-i-test.true refl
 
 returns : tie.Need-returns invariant-loop decreases-loop
-returns c = summing_done (λ (s : ℕ). s) c.before.before.args.sizes.now c.before.loop.i c.before.loop.sum c.before.loop.invariant (omega arith)
+returns c = summing_done (λ (s : ℕ). s) c.args.sizes.now c.loop-i.i c.loop-i.sum c.loop-i.invariant (omega arith)
 
-pub total-spec : {M : Type 1} → statement M
-total-spec = tie.close (tie.spec invariant-loop decreases-loop loop-holds mul-sum shared-slice-read-sum add-sum add-i loop-less loop-again returns)
+pub total_spec : {M : Type 1} → statement M
+total_spec = tie.close (tie.spec invariant-loop decreases-loop loop-i-init offset_bounds-sizes-i bounds-sizes-i overflow_add-sum overflow_add-i loop-i-smaller loop-i-preserved returns)

@@ -9,33 +9,33 @@ use Rattle.bounds.proofs.Bounds.{usable_whole}
 use Rattle.bounds.proofs.usable_edges.Statement.{statement}
 use Rattle.bounds.proofs.usable_edges.Tie as tie
 
-div-result : tie.Need-nonzero-div-result
-div-result c = search rules
+nonzero_div-result : tie.Need-nonzero_div-result
+nonzero_div-result c = search rules
 
-sub-result : tie.Need-overflow-sub-result
-sub-result c = let a = c.args in (usable_whole a.k a.total a.full c.requires.0 c.requires.1).0
+overflow_sub-result : tie.Need-overflow_sub-result
+overflow_sub-result c = let a = c.args in (usable_whole a.k a.total a.full c.requires.0 c.requires.1).0
 
-sub-ceil-div : tie.Need-overflow-sub-ceil-div
-sub-ceil-div c = search rules
+overflow_sub-total : tie.Need-overflow_sub-total
+overflow_sub-total c = search rules
 
-rem-ceil-div : tie.Need-nonzero-rem-ceil-div
-rem-ceil-div c = search rules
+nonzero_rem-full : tie.Need-nonzero_rem-full
+nonzero_rem-full c = search rules
 
-add-ceil-div : tie.Need-overflow-add-ceil-div
-add-ceil-div c = omega (arith, mod-le c.args.full c.args.k)
+overflow_add-total : tie.Need-overflow_add-total
+overflow_add-total c = omega (arith, mod-le c.args.full c.args.k)
 
-sub-ceil-div-2 : tie.Need-overflow-sub-ceil-div-2
-sub-ceil-div-2 c = search rules
+overflow_sub-k : tie.Need-overflow_sub-k
+overflow_sub-k c = search rules
 
-ceil-div-requires : tie.Need-ceil-div-requires
-ceil-div-requires c κs = search rules
+ceil_div-requires : tie.Need-ceil_div-requires
+ceil_div-requires c κs = search rules
 
-sub-result-2 : tie.Need-overflow-sub-result-2
-sub-result-2 c = let a = c.before.args in omega (arith, (usable_whole a.k a.total a.full c.before.requires.0 c.before.requires.1).1, c.ceil-div.ensures)
+overflow_sub-result-2 : tie.Need-overflow_sub-result-2
+overflow_sub-result-2 c = let a = c.args in omega (arith, (usable_whole a.k a.total a.full c.requires.0 c.requires.1).1, c.ceil_div.ensures)
 
 returns : tie.Need-returns
 unfolding usable_edges
-returns c = let a = c.before.args in ap (λ (x : ℕ). a.total - a.full / a.k - x) c.ceil-div.ensures
+returns c = let a = c.args in ap (λ (x : ℕ). a.total - a.full / a.k - x) c.ceil_div.ensures
 
-pub usable-edges-spec : {M : Type 1} → statement M
-usable-edges-spec = tie.close (tie.spec div-result sub-result sub-ceil-div rem-ceil-div add-ceil-div sub-ceil-div-2 ceil-div-requires sub-result-2 returns)
+pub usable_edges_spec : {M : Type 1} → statement M
+usable_edges_spec = tie.close (tie.spec nonzero_div-result overflow_sub-result overflow_sub-total nonzero_rem-full overflow_add-total overflow_sub-k ceil_div-requires overflow_sub-result-2 returns)
