@@ -134,7 +134,7 @@ apart_cover p (x ∷ l) a e =
 -- ---- an element taken out
 
 -- the rest covers what is left
-pub cover_pick : (p x : ℕ) {l l' : List ℕ} → Picks x l l' → Cover p l → Sub x p × Cover (diff p x) l'
+pub cover_pick : (x p : ℕ) {l l' : List ℕ} → Picks x l l' → Cover p l → Sub x p × Cover (diff p x) l'
 cover_pick p x now c = c
 cover_pick p x (later {y = y} {l' = l'} k) c =
     let w = cover_pick (diff p y) x k c.1 in

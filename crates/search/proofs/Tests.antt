@@ -36,6 +36,7 @@ and_both e f = rw (e, f)
 
 -- an element that passes
 pub any_has : {A : Type 0} (p : A → Bool) {x : A} (l : List A) → Mem x l → p x ≡ true → any p l ≡ true
+any_has {A = A} p [] x3 e = elim x3 [ ]
 any_has p (y ∷ l) (m_head q) e = rw (sym (ap p q) ∙ e)
 any_has p (y ∷ l) (m_tail m) e = go (two (p y)) (any_has p l m e)
   where

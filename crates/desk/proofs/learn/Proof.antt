@@ -9,25 +9,23 @@ use Rattle.desk.proofs.learn.Tie as tie
 keep-requires : tie.Need-keep-requires
 keep-requires c κs = search rules
 
-hash-requires : tie.Need-hash-requires
-hash-requires c κs = search rules
+hash-h-requires : tie.Need-hash-h-requires
+hash-h-requires c κs = search rules
 
-choose-requires : tie.Need-choose-requires
-choose-requires c κs = search rules
+choose-y-requires : tie.Need-choose-y-requires
+choose-y-requires c κs = search rules
 
-same_length : tie.Need-same-length
-same_length c = search rules
+shape_of-desk : tie.Need-shape_of-desk
+shape_of-desk c = search rules
 
-same-length-2 : tie.Need-same-length-2
-same-length-2 c = search rules
+shape_of-slate : tie.Need-shape_of-slate
+shape_of-slate c = search rules
 
 returns : tie.Need-returns
 returns c =
-    let k = c.before.before.before.before.choose in
-    let h = c.before.before.before.before.before.before.before in
-    ((h.hash.ensures ∙ ap (λ (z : Bytes). hash z) h.before.before.before.before.keep.ensures.label, k.ensures.0), k.ensures.1)
+    let k = c.choose-y in
+    let h = c in
+    ((h.hash-h.ensures ∙ ap (λ (z : Bytes). hash z) h.keep.ensures.label, k.ensures.0), k.ensures.1)
 
-pub learn-spec : {M : Type 1} → statement M
-learn-spec =
-    tie.close
-    (tie.spec keep-requires hash-requires choose-requires same_length same-length-2 returns)
+pub learn_spec : {M : Type 1} → statement M
+learn_spec = tie.close (tie.spec keep-requires hash-h-requires choose-y-requires shape_of-desk shape_of-slate returns)

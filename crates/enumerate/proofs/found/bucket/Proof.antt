@@ -8,15 +8,15 @@ use Rattle.enumerate.proofs.Chains.{bucket_lt}
 use Rattle.enumerate.proofs.found.bucket.Statement.{statement}
 use Rattle.enumerate.proofs.found.bucket.Tie as tie
 
-mul-result : tie.Need-overflow-mul-result
-mul-result c = omega (arith, mod-lt c.args.x {m = 4294967291} (omega arith))
+overflow_mul-result : tie.Need-overflow_mul-result
+overflow_mul-result c = omega (arith, mod-lt c.args.x {m = 4294967291} (omega arith))
 
-rem-result : tie.Need-nonzero-rem-result
-rem-result c = search rules
+nonzero_rem-result-2 : tie.Need-nonzero_rem-result-2
+nonzero_rem-result-2 c = search rules
 
 returns : tie.Need-returns
 unfolding bucket_of
 returns c = (refl, bucket_lt c.args.x c.args.p c.requires)
 
-pub bucket-spec : {M : Type 1} → statement M
-bucket-spec = tie.close (tie.spec mul-result rem-result returns)
+pub bucket_spec : {M : Type 1} → statement M
+bucket_spec = tie.close (tie.spec overflow_mul-result nonzero_rem-result-2 returns)

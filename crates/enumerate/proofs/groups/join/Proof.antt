@@ -7,84 +7,63 @@ use Rattle.enumerate.specs.Inner.Grouped.{joined}
 use Rattle.enumerate.proofs.groups.join.Statement.{statement}
 use Rattle.enumerate.proofs.groups.join.Tie as tie
 
-mul-last : tie.Need-overflow-mul-last
-mul-last c = search rules
+overflow_mul-last : tie.Need-overflow_mul-last
+overflow_mul-last c = search rules
 
-add-last : tie.Need-overflow-add-last
-add-last c = search rules
+overflow_add-last : tie.Need-overflow_add-last
+overflow_add-last c = search rules
 
-mul-last-2 : tie.Need-overflow-mul-last-2
-mul-last-2 c = search rules
+offset_bounds-parts-p : tie.Need-offset_bounds-parts-p
+offset_bounds-parts-p c = search rules
 
-slice-read-last : tie.Need-slice-read-last
-slice-read-last c = search rules
+bounds-parts-p : tie.Need-bounds-parts-p
+bounds-parts-p c = search rules
 
-add_parts : tie.Need-overflow-add-parts
-add_parts c = search rules
+overflow_add-parts : tie.Need-overflow_add-parts
+overflow_add-parts c = search rules
 
-mul-parts : tie.Need-overflow-mul-parts
-mul-parts c = search rules
+overflow_mul-parts : tie.Need-overflow_mul-parts
+overflow_mul-parts c = search rules
 
-add-parts-2 : tie.Need-overflow-add-parts-2
-add-parts-2 c = search rules
+overflow_add-parts-2 : tie.Need-overflow_add-parts-2
+overflow_add-parts-2 c = search rules
 
-mul-parts-2 : tie.Need-overflow-mul-parts-2
-mul-parts-2 c = search rules
+offset_bounds-parts-p-2 : tie.Need-offset_bounds-parts-p-2
+offset_bounds-parts-p-2 c = search rules
 
-slice-write-parts : tie.Need-slice-write-parts
-slice-write-parts c = search rules
+bounds-parts-p-2 : tie.Need-bounds-parts-p-2
+bounds-parts-p-2 c = search rules
 
-mul-parts-3 : tie.Need-overflow-mul-parts-3
-mul-parts-3 c = search rules
+overflow_mul-parts-2 : tie.Need-overflow_mul-parts-2
+overflow_mul-parts-2 c = search rules
 
-add-parts-3 : tie.Need-overflow-add-parts-3
-add-parts-3 c = search rules
+overflow_add-parts-3 : tie.Need-overflow_add-parts-3
+overflow_add-parts-3 c = search rules
 
-mul-parts-4 : tie.Need-overflow-mul-parts-4
-mul-parts-4 c = search rules
+offset_bounds-parts-p-3 : tie.Need-offset_bounds-parts-p-3
+offset_bounds-parts-p-3 c = search rules
 
-slice-write-parts-2 : tie.Need-slice-write-parts-2
-slice-write-parts-2 c = simp length-set (omega arith)
+bounds-parts-p-3 : tie.Need-bounds-parts-p-3
+bounds-parts-p-3 c = simp length-set (omega arith)
 
-mul-parts-5 : tie.Need-overflow-mul-parts-5
-mul-parts-5 c = search rules
+overflow_mul-parts-3 : tie.Need-overflow_mul-parts-3
+overflow_mul-parts-3 c = search rules
 
-add-parts-4 : tie.Need-overflow-add-parts-4
-add-parts-4 c = search rules
+overflow_add-parts-4 : tie.Need-overflow_add-parts-4
+overflow_add-parts-4 c = search rules
 
-mul-parts-6 : tie.Need-overflow-mul-parts-6
-mul-parts-6 c = search rules
+offset_bounds-parts-p-4 : tie.Need-offset_bounds-parts-p-4
+offset_bounds-parts-p-4 c = search rules
 
-slice-write-parts-3 : tie.Need-slice-write-parts-3
-slice-write-parts-3 c = simp length-set (omega arith)
+bounds-parts-p-4 : tie.Need-bounds-parts-p-4
+bounds-parts-p-4 c = simp length-set (omega arith)
 
-same_length : tie.Need-same-length
-same_length c = search rules
+shape_of-parts : tie.Need-shape_of-parts
+shape_of-parts c = search rules
 
 returns : tie.Need-returns
 unfolding joined
 returns c = refl
 
-pub join-spec : {M : Type 1} → statement M
-join-spec =
-    tie.close
-    (tie.spec
-    mul-last
-    add-last
-    mul-last-2
-    slice-read-last
-    add_parts
-    mul-parts
-    add-parts-2
-    mul-parts-2
-    slice-write-parts
-    mul-parts-3
-    add-parts-3
-    mul-parts-4
-    slice-write-parts-2
-    mul-parts-5
-    add-parts-4
-    mul-parts-6
-    slice-write-parts-3
-    same_length
-    returns)
+pub join_spec : {M : Type 1} → statement M
+join_spec = tie.close (tie.spec overflow_mul-last overflow_add-last offset_bounds-parts-p bounds-parts-p overflow_add-parts overflow_mul-parts overflow_add-parts-2 offset_bounds-parts-p-2 bounds-parts-p-2 overflow_mul-parts-2 overflow_add-parts-3 offset_bounds-parts-p-3 bounds-parts-p-3 overflow_mul-parts-3 overflow_add-parts-4 offset_bounds-parts-p-4 bounds-parts-p-4 shape_of-parts returns)

@@ -8,147 +8,116 @@ use Rattle.enumerate.proofs.Grouping.{Shifting, shifting_start, shifting_next, s
 use Rattle.enumerate.proofs.groups.open.Statement.{statement}
 use Rattle.enumerate.proofs.groups.open.Tie as tie
 
-abbrev invariant-loop : tie.invariant-loop
+abbrev invariant-loop : tie.invariant-loop-j
 invariant-loop parts₀ p g k i j₀ parts j = (k ≤ j) × (j ≤ g) × Shifting parts₀ parts p g j
 
-abbrev decreases-loop : tie.decreases-loop
+abbrev decreases-loop : tie.decreases-loop-j
 decreases-loop parts₀ p g k i j₀ parts j = j
 
-loop-holds : tie.Need-loop-init invariant-loop decreases-loop
-loop-holds c = (omega arith, omega arith, shifting_start c.args.parts.now c.args.p c.args.g)
+loop-j-init : tie.Need-loop-j-init invariant-loop decreases-loop
+loop-j-init c = (omega arith, omega arith, shifting_start c.args.parts.now c.args.p c.args.g)
 
-mul-before : tie.Need-overflow-mul-before invariant-loop decreases-loop
-mul-before c = omega arith
+overflow_mul-before : tie.Need-overflow_mul-before invariant-loop decreases-loop
+overflow_mul-before c = omega arith
 
-add-before : tie.Need-overflow-add-before invariant-loop decreases-loop
-add-before c = omega arith
+overflow_add-before : tie.Need-overflow_add-before invariant-loop decreases-loop
+overflow_add-before c = omega arith
 
-sub-before : tie.Need-overflow-sub-before invariant-loop decreases-loop
-sub-before c = omega arith
+overflow_sub-before : tie.Need-overflow_sub-before invariant-loop decreases-loop
+overflow_sub-before c = omega arith
 
-mul-before-2 : tie.Need-overflow-mul-before-2 invariant-loop decreases-loop
-mul-before-2 c =
-    let s = c.before.before in
-    scaled_Fits (4 * s.args.p + c.before.loop.j - 1) (length s.args.parts.now) 8 (omega arith) s.well-formed.0.1
+offset_bounds-parts-p : tie.Need-offset_bounds-parts-p invariant-loop decreases-loop
+offset_bounds-parts-p c =
+    let s = c in
+    scaled_Fits (4 * s.args.p + c.loop-j.j - 1) (length s.args.parts.now) 8 (omega arith) s.well_formed.0.1
 
-slice-read-before : tie.Need-slice-read-before invariant-loop decreases-loop
-slice-read-before c = omega (arith, c.before.before.loop.invariant.2.long)
+bounds-parts-p : tie.Need-bounds-parts-p invariant-loop decreases-loop
+bounds-parts-p c = omega (arith, c.loop-j.invariant.2.long)
 
-mul-parts : tie.Need-overflow-mul-parts invariant-loop decreases-loop
-mul-parts c = omega arith
+overflow_mul-parts : tie.Need-overflow_mul-parts invariant-loop decreases-loop
+overflow_mul-parts c = omega arith
 
-add_parts : tie.Need-overflow-add-parts invariant-loop decreases-loop
-add_parts c = omega arith
+overflow_add-parts : tie.Need-overflow_add-parts invariant-loop decreases-loop
+overflow_add-parts c = omega arith
 
-mul-parts-2 : tie.Need-overflow-mul-parts-2 invariant-loop decreases-loop
-mul-parts-2 c =
-    let s = c.before.before.before in
-    scaled_Fits (4 * s.args.p + c.before.before.loop.j) (length s.args.parts.now) 8 (omega arith) s.well-formed.0.1
+offset_bounds-parts-p-in-loop-j : tie.Need-offset_bounds-parts-p-in-loop-j invariant-loop decreases-loop
+offset_bounds-parts-p-in-loop-j c =
+    let s = c in
+    scaled_Fits (4 * s.args.p + c.loop-j.j) (length s.args.parts.now) 8 (omega arith) s.well_formed.0.1
 
-slice-write-parts : tie.Need-slice-write-parts invariant-loop decreases-loop
-slice-write-parts c = omega (arith, c.before.before.loop.invariant.2.long)
+bounds-parts-p-in-loop-j : tie.Need-bounds-parts-p-in-loop-j invariant-loop decreases-loop
+bounds-parts-p-in-loop-j c = omega (arith, c.loop-j.invariant.2.long)
 
-sub-j : tie.Need-overflow-sub-j invariant-loop decreases-loop
-sub-j c = omega arith
+overflow_sub-j : tie.Need-overflow_sub-j invariant-loop decreases-loop
+overflow_sub-j c = omega arith
 
-loop-less : tie.Need-loop-smaller invariant-loop decreases-loop
-loop-less c = omega arith
+loop-j-smaller : tie.Need-loop-j-smaller invariant-loop decreases-loop
+loop-j-smaller c = omega arith
 
-loop-again : tie.Need-loop-preserved invariant-loop decreases-loop
-loop-again c =
-    let a = c.before.before.before.args in
-    let w = c.before.before.loop in
+loop-j-preserved : tie.Need-loop-j-preserved invariant-loop decreases-loop
+loop-j-preserved c =
+    let a = c.args in
+    let w = c.loop-j in
     (omega arith, omega arith, shifting_next a.parts.now w.parts a.p a.g w.j w.invariant.2 (omega arith) (omega arith) w.invariant.1)
 
-mul-parts-3 : tie.Need-overflow-mul-parts-3 invariant-loop decreases-loop
-mul-parts-3 c = omega arith
+overflow_mul-parts-2 : tie.Need-overflow_mul-parts-2 invariant-loop decreases-loop
+overflow_mul-parts-2 c = omega arith
 
-add-parts-2 : tie.Need-overflow-add-parts-2 invariant-loop decreases-loop
-add-parts-2 c = omega arith
+overflow_add-parts-2 : tie.Need-overflow_add-parts-2 invariant-loop decreases-loop
+overflow_add-parts-2 c = omega arith
 
-mul-parts-4 : tie.Need-overflow-mul-parts-4 invariant-loop decreases-loop
-mul-parts-4 c =
-    let s = c.before.before in
-    scaled_Fits (4 * s.args.p + s.args.k) (length s.args.parts.now) 8 (omega arith) s.well-formed.0.1
+offset_bounds-parts-p-2 : tie.Need-offset_bounds-parts-p-2 invariant-loop decreases-loop
+offset_bounds-parts-p-2 c =
+    let s = c in
+    scaled_Fits (4 * s.args.p + s.args.k) (length s.args.parts.now) 8 (omega arith) s.well_formed.0.1
 
-slice-write-parts-2 : tie.Need-slice-write-parts-2 invariant-loop decreases-loop
-slice-write-parts-2 c = omega (arith, c.before.loop.invariant.2.long)
+bounds-parts-p-2 : tie.Need-bounds-parts-p-2 invariant-loop decreases-loop
+bounds-parts-p-2 c = omega (arith, c.loop-j.invariant.2.long)
 
-mul-parts-5 : tie.Need-overflow-mul-parts-5 invariant-loop decreases-loop
-mul-parts-5 c = omega arith
+overflow_mul-parts-3 : tie.Need-overflow_mul-parts-3 invariant-loop decreases-loop
+overflow_mul-parts-3 c = omega arith
 
-add-parts-3 : tie.Need-overflow-add-parts-3 invariant-loop decreases-loop
-add-parts-3 c = omega arith
+overflow_add-parts-3 : tie.Need-overflow_add-parts-3 invariant-loop decreases-loop
+overflow_add-parts-3 c = omega arith
 
-mul-parts-6 : tie.Need-overflow-mul-parts-6 invariant-loop decreases-loop
-mul-parts-6 c =
-    let s = c.before.before in
-    scaled_Fits (5 * s.args.p + s.args.i) (length s.args.parts.now) 8 (omega arith) s.well-formed.0.1
+offset_bounds-parts-p-3 : tie.Need-offset_bounds-parts-p-3 invariant-loop decreases-loop
+offset_bounds-parts-p-3 c =
+    let s = c in
+    scaled_Fits (5 * s.args.p + s.args.i) (length s.args.parts.now) 8 (omega arith) s.well_formed.0.1
 
-slice-write-parts-3 : tie.Need-slice-write-parts-3 invariant-loop decreases-loop
-slice-write-parts-3 c = simp length-set (omega (arith, c.before.loop.invariant.2.long))
+bounds-parts-p-3 : tie.Need-bounds-parts-p-3 invariant-loop decreases-loop
+bounds-parts-p-3 c = simp length-set (omega (arith, c.loop-j.invariant.2.long))
 
-mul-parts-7 : tie.Need-overflow-mul-parts-7 invariant-loop decreases-loop
-mul-parts-7 c = omega arith
+overflow_mul-parts-4 : tie.Need-overflow_mul-parts-4 invariant-loop decreases-loop
+overflow_mul-parts-4 c = omega arith
 
-add-parts-4 : tie.Need-overflow-add-parts-4 invariant-loop decreases-loop
-add-parts-4 c = omega arith
+overflow_add-parts-4 : tie.Need-overflow_add-parts-4 invariant-loop decreases-loop
+overflow_add-parts-4 c = omega arith
 
-mul-parts-8 : tie.Need-overflow-mul-parts-8 invariant-loop decreases-loop
-mul-parts-8 c =
-    let s = c.before.before in
-    scaled_Fits (6 * s.args.p + s.args.i) (length s.args.parts.now) 8 (omega arith) s.well-formed.0.1
+offset_bounds-parts-p-4 : tie.Need-offset_bounds-parts-p-4 invariant-loop decreases-loop
+offset_bounds-parts-p-4 c =
+    let s = c in
+    scaled_Fits (6 * s.args.p + s.args.i) (length s.args.parts.now) 8 (omega arith) s.well_formed.0.1
 
-slice-write-parts-4 : tie.Need-slice-write-parts-4 invariant-loop decreases-loop
-slice-write-parts-4 c = simp length-set (omega (arith, c.before.loop.invariant.2.long))
+bounds-parts-p-4 : tie.Need-bounds-parts-p-4 invariant-loop decreases-loop
+bounds-parts-p-4 c = simp length-set (omega (arith, c.loop-j.invariant.2.long))
 
-done : (c : tie.After-loop invariant-loop decreases-loop) → c.before.loop.j ≡ c.before.before.args.k
+done : (c : tie.After-loop-j invariant-loop decreases-loop) → c.loop-j.j ≡ c.args.k
 done c = omega arith
 
-same_length : tie.Need-same-length invariant-loop decreases-loop
-same_length c =
-    let a = c.before.before.args in
-    let w = c.before.loop in
-    let p = c.before.before.requires in
+shape_of-parts : tie.Need-shape_of-parts invariant-loop decreases-loop
+shape_of-parts c =
+    let a = c.args in
+    let w = c.loop-j in
+    let p = c.requires in
     (shifting_done a.parts.now w.parts a.p a.g w.j w.invariant.2 a.k a.i (done c) p.0 p.1 p.2 p.3).outside.long
 
 returns : tie.Need-returns invariant-loop decreases-loop
 returns c =
-    let a = c.before.before.args in
-    let w = c.before.loop in
-    let p = c.before.before.requires in
+    let a = c.args in
+    let w = c.loop-j in
+    let p = c.requires in
     shifting_done a.parts.now w.parts a.p a.g w.j w.invariant.2 a.k a.i (done c) p.0 p.1 p.2 p.3
 
 pub open_spec : {M : Type 1} → statement M
-open_spec =
-    tie.close
-    (tie.spec
-    invariant-loop
-    decreases-loop
-    loop-holds
-    mul-before
-    add-before
-    sub-before
-    mul-before-2
-    slice-read-before
-    mul-parts
-    add_parts
-    mul-parts-2
-    slice-write-parts
-    sub-j
-    loop-less
-    loop-again
-    mul-parts-3
-    add-parts-2
-    mul-parts-4
-    slice-write-parts-2
-    mul-parts-5
-    add-parts-3
-    mul-parts-6
-    slice-write-parts-3
-    mul-parts-7
-    add-parts-4
-    mul-parts-8
-    slice-write-parts-4
-    same_length
-    returns)
+open_spec = tie.close (tie.spec invariant-loop decreases-loop loop-j-init overflow_mul-before overflow_add-before overflow_sub-before offset_bounds-parts-p bounds-parts-p overflow_mul-parts overflow_add-parts offset_bounds-parts-p-in-loop-j bounds-parts-p-in-loop-j overflow_sub-j loop-j-smaller loop-j-preserved overflow_mul-parts-2 overflow_add-parts-2 offset_bounds-parts-p-2 bounds-parts-p-2 overflow_mul-parts-3 overflow_add-parts-3 offset_bounds-parts-p-3 bounds-parts-p-3 overflow_mul-parts-4 overflow_add-parts-4 offset_bounds-parts-p-4 bounds-parts-p-4 shape_of-parts returns)
