@@ -90,7 +90,7 @@ module _ (r : Bytes) where
       let y : ℕ = get_or (x ∷ parts) k 0 in
       let l : List ℕ = take k (x ∷ parts) ++ drop (suc k) (x ∷ parts) in
       let pk : Picks y (x ∷ parts) l = at_pick k (x ∷ parts) w.0 in
-      let c' = cover_pick (diff p s) y pk c in
+      let c' = cover_pick y (diff p s) pk c in
       let gy = g y (pick_mem y pk) in
       let hu : Sub (bit_or s y) p = both_sub p s y hs c'.0 in
       let ih : Built r (bit_or s y ∷ made) (join_up r f (bit_or s y) l) (bit_or s y) p =

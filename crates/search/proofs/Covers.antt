@@ -135,9 +135,9 @@ apart_cover p (x ∷ l) a e =
 
 -- the rest covers what is left
 pub cover_pick : (x p : ℕ) {l l' : List ℕ} → Picks x l l' → Cover p l → Sub x p × Cover (diff p x) l'
-cover_pick p x now c = c
-cover_pick p x (later {y = y} {l' = l'} k) c =
-    let w = cover_pick (diff p y) x k c.1 in
+cover_pick x p now c = c
+cover_pick x p (later {y = y} {l' = l'} k) c =
+    let w = cover_pick x (diff p y) k c.1 in
     (sub_less p x y w.0, (sub_less_swap p x y c.0 w.0, subst (λ (a : ℕ). Cover a l') (less_swap p y x) w.1))
 
 -- it is an element, the others are elements too, and each element is it or one of them

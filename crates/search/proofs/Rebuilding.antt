@@ -95,7 +95,7 @@ module _ (r : Bytes) where
   pick_pieces : (w x : ℕ) (l l' : List ℕ) → Pieces r w l → Picks x l l' → Pieces r (diff w x) l'
   pick_pieces w x l l' h k = record {
     own = own_sub r (diff w x) w (diff_sub w x) h.own;
-    cover = (cover_pick w x k h.cover).1;
+    cover = (cover_pick x w k h.cover).1;
     each = λ y m. h.each y (pick_within x k y m);
   }
 
