@@ -211,7 +211,12 @@ module _ (ms : List Pair) (pieces : List ℕ) where
     where
       go : Dec (k ≡ size_of ms i) → get_or (set masks (size_of ms i) (bit_or (get_or masks (size_of ms i) 0) (struck ms i))) k 0 ≡ mask_of bytes ms (i ∷ removable bytes ms pieces (suc i)) k
       go (yes q) =
-          rw (eq-eqb (size_of ms i) k (sym q), unions_more, q) (get_or-set_same masks (size_of ms i) (bit_or (get_or masks (size_of ms i) 0) (struck ms i)) 0 f ∙ or_comm (get_or masks (size_of ms i) 0) (struck ms i) ∙ ap (bit_or (struck ms i)) (rw q at (w.masked bytes k l)))
+          let v : ℕ = bit_or (get_or masks (size_of ms i) 0) (struck ms i) in
+          rw (eq-eqb (size_of ms i) k (sym q), unions_more)
+          (ap (λ (j : ℕ). get_or (set masks (size_of ms i) v) j 0) q
+          ∙ get_or-set_same masks (size_of ms i) v 0 f
+          ∙ or_comm (get_or masks (size_of ms i) 0) (struck ms i)
+          ∙ ap (bit_or (struck ms i)) (ap (λ (j : ℕ). get_or masks j 0) (sym q) ∙ w.masked bytes k l))
       go (no q) =
           rw (ne_eqb (size_of ms i) k (λ e. q (sym e))) (get_or-set_other masks (size_of ms i) k (bit_or (get_or masks (size_of ms i) 0) (struck ms i)) 0 q ∙ w.masked bytes k l)
 

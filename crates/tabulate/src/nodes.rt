@@ -6,7 +6,7 @@ ghost use Rattle.tabulate.specs.Inner.Noded.{both_noted, apart, pairs_with, disj
 ghost use Rattle.tabulate.specs.Inner.Noded.{Beside, Named, PairsMade, Naming, Meeting, ToMeet, Pairing, Groups, Grown};
 
 // How many nodes there are, and how many matches.
-#[derive(Drop)]
+#[derive(Clone, Copy)]
 pub struct Done {
     pub nodes: usize,
     pub matches: u64,

@@ -5,94 +5,74 @@ use Rattle.memoize.proofs.Asking.{answers_changed, answers_stopped, answers_put,
 use Rattle.memoize.proofs.answer.Statement.{statement}
 use Rattle.memoize.proofs.answer.Tie as tie
 
-locate-requires : tie.Need-locate-requires
-locate-requires c κs = search rules
+locate-e-requires : tie.Need-locate-e-requires
+locate-e-requires c κs = search rules
 
-gives-way-requires : tie.Need-gives-way-requires
-gives-way-requires c κs =
-    let k = c.before.before.before.before in
-    let p = k.before.before.before.before.before.before.before.requires in
-    (entry_sized (p.1.1.held k.locate.result c.before.if1.true), entry_sized p.2.1)
+gives_way-requires : tie.Need-gives_way-requires
+gives_way-requires c κs =
+    let k = c in
+    let p = k.requires in
+    (entry_sized (p.1.1.held k.locate-e.result c.if-e-entries.true), entry_sized p.2.1)
 
-mul-copy : tie.Need-overflow-mul-copy
-mul-copy c = search rules
+overflow_mul-e : tie.Need-overflow_mul-e
+overflow_mul-e c = search rules
 
 copy-requires : tie.Need-copy-requires
 copy-requires c κs = search rules
 
-same_length : tie.Need-same-length
-same_length c = search rules
+shape_of-memo-then-gives_way : tie.Need-shape_of-memo-then-gives_way
+shape_of-memo-then-gives_way c = search rules
 
-same-length-2 : tie.Need-same-length-2
-same-length-2 c = search rules
+shape_of-slate-then-gives_way : tie.Need-shape_of-slate-then-gives_way
+shape_of-slate-then-gives_way c = search rules
 
-returns : tie.Need-returns
-returns c =
-    let k = c.before.before.before.before.before.before.before.before.before.before.locate in
-    let known = c.before.before.before.before.before.before.before.if1.true in
-    let w = c.before.before.before.before in
-    (λ m y s g. answers_changed s g (k.ensures.0 m y s g) known w.before.gives-way.ensures w.if2.true c.before.before.copy.ensures, k.ensures.1)
+returns-then-gives_way : tie.Need-returns-then-gives_way
+returns-then-gives_way c =
+    let k = c.locate-e in
+    let known = c.if-e-entries.true in
+    let w = c in
+    (λ m y s g. answers_changed s g (k.ensures.0 m y s g) known w.gives_way.ensures w.if-gives_way.true c.copy.ensures, k.ensures.1)
 
-same-length-3 : tie.Need-same-length-3
-same-length-3 c = search rules
+shape_of-memo-then-e-entries : tie.Need-shape_of-memo-then-e-entries
+shape_of-memo-then-e-entries c = search rules
 
-same-length-4 : tie.Need-same-length-4
-same-length-4 c = search rules
+shape_of-slate-then-e-entries : tie.Need-shape_of-slate-then-e-entries
+shape_of-slate-then-e-entries c = search rules
 
-returns-2 : tie.Need-returns-2
-returns-2 c =
-    let k = c.before.before.before.before.before.before.locate in
-    let w = c.before.gives-way in
-    (λ m y s g. answers_stopped s g (k.ensures.0 m y s g) c.before.before.before.if1.true w.ensures c.if2.false, k.ensures.1)
+returns-then-e-entries : tie.Need-returns-then-e-entries
+returns-then-e-entries c =
+    let k = c.locate-e in
+    let w = c.gives_way in
+    (λ m y s g. answers_stopped s g (k.ensures.0 m y s g) c.if-e-entries.true w.ensures c.if-gives_way.false, k.ensures.1)
 
 store-requires : tie.Need-store-requires
 store-requires c κs = search rules
 
-add-t25 : tie.Need-overflow-add-t25
-add-t25 c = search rules
+overflow_add-result : tie.Need-overflow_add-result
+overflow_add-result c = search rules
 
-same-length-5 : tie.Need-same-length-5
-same-length-5 c = search rules
+shape_of-memo-then-entries-memo : tie.Need-shape_of-memo-then-entries-memo
+shape_of-memo-then-entries-memo c = search rules
 
-same-length-6 : tie.Need-same-length-6
-same-length-6 c = search rules
+shape_of-slate-then-entries-memo : tie.Need-shape_of-slate-then-entries-memo
+shape_of-slate-then-entries-memo c = search rules
 
-returns-3 : tie.Need-returns-3
-returns-3 c =
-    let k = c.before.before.before.before.before.before.before.before.locate in
-    let r = c.before.before.before.before in
-    (λ m y s g. answers_put s g (k.ensures.0 m y s g) r.before.if1.false r.if3.true c.before.before.store.ensures, k.ensures.1)
+returns-then-entries-memo : tie.Need-returns-then-entries-memo
+returns-then-entries-memo c =
+    let k = c.locate-e in
+    let r = c in
+    (λ m y s g. answers_put s g (k.ensures.0 m y s g) r.if-e-entries.false r.if-entries-memo.true c.store.ensures, k.ensures.1)
 
-same-length-7 : tie.Need-same-length-7
-same-length-7 c = search rules
+shape_of-memo : tie.Need-shape_of-memo
+shape_of-memo c = search rules
 
-same-length-8 : tie.Need-same-length-8
-same-length-8 c = search rules
+shape_of-slate : tie.Need-shape_of-slate
+shape_of-slate c = search rules
 
-returns-4 : tie.Need-returns-4
-returns-4 c =
-    let k = c.before.before.before.before.locate in
-    (λ m y s g. answers_full s g (k.ensures.0 m y s g) c.before.if1.false c.if3.false, k.ensures.1)
+returns : tie.Need-returns
+returns c =
+    let k = c.locate-e in
+    (λ m y s g. answers_full s g (k.ensures.0 m y s g) c.if-e-entries.false c.if-entries-memo.false, k.ensures.1)
 
-pub answer-spec : {M : Type 1} → statement M
-answer-spec =
-    tie.close
-    (tie.spec
-    locate-requires
-    gives-way-requires
-    mul-copy
-    copy-requires
-    same_length
-    same-length-2
-    returns
-    same-length-3
-    same-length-4
-    returns-2
-    store-requires
-    add-t25
-    same-length-5
-    same-length-6
-    returns-3
-    same-length-7
-    same-length-8
-    returns-4)
+pub answer_spec : {M : Type 1} → statement M
+answer_spec = tie.close (tie.spec locate-e-requires gives_way-requires overflow_mul-e copy-requires shape_of-memo-then-gives_way shape_of-slate-then-gives_way returns-then-gives_way shape_of-memo-then-e-entries shape_of-slate-then-e-entries returns-then-e-entries store-requires overflow_add-result shape_of-memo-then-entries-memo shape_of-slate-then-entries-memo returns-then-entries-memo shape_of-memo shape_of-slate returns)

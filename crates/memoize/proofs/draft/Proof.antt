@@ -9,63 +9,51 @@ use Rattle.memoize.proofs.draft.Statement.{statement}
 use Rattle.memoize.proofs.draft.Tie as tie
 
 -- where the pieces have been done, and where the function begins
-abbrev stood : tie.After-slice-known7 → tie.After-stand-all
+abbrev stood : tie.After-slice_known-7-1 → tie.After-stand_all-total
 stood c = c.before.before.before.before.before.before.before.before.before.before
 
-abbrev start : tie.After-slice-known7 → tie.Start
+abbrev start : tie.After-slice_known-7-1 → tie.Start
 start c = (stood c).before.before.before.before.before.before.before.before.before.before
 
-long : (c : tie.After-slice-known7) → length c.before.before.put-removals.new.0 ≡ length (start c).args.new.now
-long c = c.before.before.put-removals.ensures.long ∙ (stood c).stand-all.auto.1.1.1.0
+long : (c : tie.After-slice_known-7-1) → length c.put_removals.new.new ≡ length (start c).args.new.now
+long c = c.put_removals.ensures.long ∙ (stood c).stand_all-total.auto.new
 
-wide : (c : tie.After-slice-known7) → 80 ≤ length c.before.before.put-removals.new.0
+wide : (c : tie.After-slice_known-7-1) → 80 ≤ length c.put_removals.new.new
 wide c = omega (arith, long c, (start c).requires.3)
 
-stand-all-requires : tie.Need-stand-all-requires
-stand-all-requires c κs = search rules
+stand_all-total-requires : tie.Need-stand_all-total-requires
+stand_all-total-requires c κs = search rules
 
-put-removals-requires : tie.Need-put-removals-requires
-put-removals-requires c κs = search rules
+put_removals-requires : tie.Need-put_removals-requires
+put_removals-requires c κs = search rules
 
-slice-write-new : tie.Need-slice-write-new
-slice-write-new c = search rules
+bounds-new-64 : tie.Need-bounds-new-64
+bounds-new-64 c = search rules
 
-slice-write-new-2 : tie.Need-slice-write-new-2
-slice-write-new-2 c = let w = wide c in simp length-set (omega arith)
+bounds-new-65 : tie.Need-bounds-new-65
+bounds-new-65 c = let w = wide c in simp length-set (omega arith)
 
-slice-write-new-3 : tie.Need-slice-write-new-3
-slice-write-new-3 c = let w = wide c in simp length-set (omega arith)
+bounds-new-66 : tie.Need-bounds-new-66
+bounds-new-66 c = let w = wide c in simp length-set (omega arith)
 
-slice-write-new-4 : tie.Need-slice-write-new-4
-slice-write-new-4 c = let w = wide c in simp length-set (omega arith)
+bounds-new-67 : tie.Need-bounds-new-67
+bounds-new-67 c = let w = wide c in simp length-set (omega arith)
 
-same_length : tie.Need-same-length
-same_length c = simp length-set (long c)
+shape_of-new : tie.Need-shape_of-new
+shape_of-new c = simp length-set (long c)
 
-same-length-2 : tie.Need-same-length-2
-same-length-2 c = search rules
+shape_of-desk : tie.Need-shape_of-desk
+shape_of-desk c = search rules
 
-same-length-3 : tie.Need-same-length-3
-same-length-3 c = search rules
+shape_of-slate : tie.Need-shape_of-slate
+shape_of-slate c = search rules
 
 returns : tie.Need-returns
 returns c =
-    let k = (stood c).stand-all in
+    let k = (stood c).stand_all-total in
     let s = start c in
-    let room : 80 ≤ length k.last.1.1.1.0 = omega (arith, s.pre.3, k.kept.1.1.1.0) in
-    (drafted s.args.index k.ensures.0 c.before.before.put-removals.ensures s.pre.2 room, k.ensures.1)
+    let room : 80 ≤ length k.new.new = omega (arith, s.requires.3, k.auto.new) in
+    (drafted s.args.index k.ensures.0 c.put_removals.ensures s.requires.2 room, k.ensures.1)
 
-pub draft-spec : {M : Type 1} → statement M
-draft-spec =
-    tie.close
-    (tie.spec
-    stand-all-requires
-    put-removals-requires
-    slice-write-new
-    slice-write-new-2
-    slice-write-new-3
-    slice-write-new-4
-    same_length
-    same-length-2
-    same-length-3
-    returns)
+pub draft_spec : {M : Type 1} → statement M
+draft_spec = tie.close (tie.spec stand_all-total-requires put_removals-requires bounds-new-64 bounds-new-65 bounds-new-66 bounds-new-67 shape_of-new shape_of-desk shape_of-slate returns)

@@ -11,140 +11,108 @@ use Rattle.memoize.specs.Inner.Stored.{removals_at}
 use Rattle.memoize.proofs.gives_way.Statement.{statement}
 use Rattle.memoize.proofs.gives_way.Tie as tie
 
-shared-slice-read-if1 : tie.Need-shared-slice-read-if1
-shared-slice-read-if1 c = search rules
+bounds-new-66 : tie.Need-bounds-new-66
+bounds-new-66 c = search rules
 
-mul-if1 : tie.Need-overflow-mul-if1
-mul-if1 c = search rules
+overflow_mul-e : tie.Need-overflow_mul-e
+overflow_mul-e c = search rules
 
-add-if1 : tie.Need-overflow-add-if1
-add-if1 c = search rules
+overflow_add-e : tie.Need-overflow_add-e
+overflow_add-e c = search rules
 
-mul-if1-2 : tie.Need-overflow-mul-if1-2
-mul-if1-2 c = search rules
+offset_bounds-memo-e : tie.Need-offset_bounds-memo-e
+offset_bounds-memo-e c = search rules
 
-shared-slice-read-if1-2 : tie.Need-shared-slice-read-if1-2
-shared-slice-read-if1-2 c = search rules
+bounds-memo-e : tie.Need-bounds-memo-e
+bounds-memo-e c = search rules
 
-returns : tie.Need-returns
-returns c =
-    let a = c.before.before.before.before.before.args in
-    sym (or_left _ _ (lt-ltb (get_or a.new.now 66 0) (get_or a.memo.now (80 * a.e + 66) 0) c.if1.true))
+returns-then-new-memo : tie.Need-returns-then-new-memo
+returns-then-new-memo c =
+    let a = c.args in
+    sym (or_left _ _ (lt-ltb (get_or a.new.now 66 0) (get_or a.memo.now (80 * a.e + 66) 0) c.if-new-memo.true))
 
-mul-a : tie.Need-overflow-mul-a
-mul-a c = search rules
+overflow_mul-a : tie.Need-overflow_mul-a
+overflow_mul-a c = search rules
 
-mul-a-2 : tie.Need-overflow-mul-a-2
-mul-a-2 c = search rules
+overflow_mul-a-2 : tie.Need-overflow_mul-a-2
+overflow_mul-a-2 c = search rules
 
-add_a : tie.Need-overflow-add-a
-add_a c = search rules
+overflow_add-a : tie.Need-overflow_add-a
+overflow_add-a c = search rules
 
-mul-a-3 : tie.Need-overflow-mul-a-3
-mul-a-3 c = search rules
+offset_bounds-memo-e-2 : tie.Need-offset_bounds-memo-e-2
+offset_bounds-memo-e-2 c = search rules
 
-shared-slice-read-a : tie.Need-shared-slice-read-a
-shared-slice-read-a c = search rules
+bounds-memo-e-2 : tie.Need-bounds-memo-e-2
+bounds-memo-e-2 c = search rules
 
-add-a-2 : tie.Need-overflow-add-a-2
-add-a-2 c = search rules
+overflow_add-a-2 : tie.Need-overflow_add-a-2
+overflow_add-a-2 c = search rules
 
-mul-b : tie.Need-overflow-mul-b
-mul-b c = search rules
+overflow_mul-b : tie.Need-overflow_mul-b
+overflow_mul-b c = search rules
 
-add-b : tie.Need-overflow-add-b
-add-b c = search rules
+overflow_add-b : tie.Need-overflow_add-b
+overflow_add-b c = search rules
 
-mul-b-2 : tie.Need-overflow-mul-b-2
-mul-b-2 c = search rules
+offset_bounds-memo-e-3 : tie.Need-offset_bounds-memo-e-3
+offset_bounds-memo-e-3 c = search rules
 
-shared-slice-read-b : tie.Need-shared-slice-read-b
-shared-slice-read-b c = search rules
+bounds-memo-e-3 : tie.Need-bounds-memo-e-3
+bounds-memo-e-3 c = search rules
 
-add-b-2 : tie.Need-overflow-add-b-2
-add-b-2 c = search rules
+overflow_add-b-2 : tie.Need-overflow_add-b-2
+overflow_add-b-2 c = search rules
 
-shared-slice-read-m : tie.Need-shared-slice-read-m
-shared-slice-read-m c = search rules
+bounds-new-64 : tie.Need-bounds-new-64
+bounds-new-64 c = search rules
 
-shared-slice-read-n : tie.Need-shared-slice-read-n
-shared-slice-read-n c = search rules
+bounds-new-65 : tie.Need-bounds-new-65
+bounds-new-65 c = search rules
 
-add-n : tie.Need-overflow-add-n
-add-n c = search rules
+overflow_add-n : tie.Need-overflow_add-n
+overflow_add-n c = search rules
 
-mul-later : tie.Need-overflow-mul-later
-mul-later c = search rules
+offset_bounds-memo-a : tie.Need-offset_bounds-memo-a
+offset_bounds-memo-a c = search rules
 
-sub-later : tie.Need-overflow-sub-later
-sub-later c = search rules
+slice_bounds-later-count : tie.Need-slice_bounds-later-count
+slice_bounds-later-count c = search rules
 
-part-later-start : tie.Need-slice-bounds-later-start
-part-later-start c = search rules
+slice_bounds-later-start : tie.Need-slice_bounds-later-start
+slice_bounds-later-start c = search rules
 
-part-later-end : tie.Need-slice-bounds-later-end
-part-later-end c = search rules
+slice_bounds-later-end : tie.Need-slice_bounds-later-end
+slice_bounds-later-end c = search rules
 
-mul-later-2 : tie.Need-overflow-mul-later-2
-mul-later-2 c = search rules
+offset_bounds-new-m : tie.Need-offset_bounds-new-m
+offset_bounds-new-m c = search rules
 
-sub-later-2 : tie.Need-overflow-sub-later-2
-sub-later-2 c = search rules
+slice_bounds-later-count-2 : tie.Need-slice_bounds-later-count-2
+slice_bounds-later-count-2 c = search rules
 
-part-later-start-2 : tie.Need-slice-bounds-later-start-2
-part-later-start-2 c = search rules
+slice_bounds-later-start-2 : tie.Need-slice_bounds-later-start-2
+slice_bounds-later-start-2 c = search rules
 
-part-later-end-2 : tie.Need-slice-bounds-later-end-2
-part-later-end-2 c = search rules
+slice_bounds-later-end-2 : tie.Need-slice_bounds-later-end-2
+slice_bounds-later-end-2 c = search rules
 
 later-requires : tie.Need-later-requires
 later-requires c κs = search rules
 
-returns-2 : tie.Need-returns-2
+returns : tie.Need-returns
 unfolding removals_at
-returns-2 c =
-    let t = c.before.before.before.before.before.before.before in
-    let a = t.before.before.before.before.before.args in
+returns c =
+    let t = c in
+    let a = t.args in
     let i = 80 * a.e + get_or a.memo.now (80 * a.e + 64) 0 in
     let n = get_or a.memo.now (80 * a.e + 65) 0 in
     let j = get_or a.new.now 64 0 in
     let m = get_or a.new.now 65 0 in
     let e : i + n - i ≡ n = omega arith in
     let f : j + m - j ≡ m = omega arith in
-    let index = le-ltb (get_or a.new.now 66 0) (get_or a.memo.now (80 * a.e + 66) 0) t.if1.false in
+    let index = le-ltb (get_or a.new.now 66 0) (get_or a.memo.now (80 * a.e + 66) 0) t.if-new-memo.false in
     rw (index, zero-add j) (rw (e, f) at c.later.ensures)
 
-pub gives-way-spec : {M : Type 1} → statement M
-gives-way-spec =
-    tie.close
-    (tie.spec
-    shared-slice-read-if1
-    mul-if1
-    add-if1
-    mul-if1-2
-    shared-slice-read-if1-2
-    returns
-    mul-a
-    mul-a-2
-    add_a
-    mul-a-3
-    shared-slice-read-a
-    add-a-2
-    mul-b
-    add-b
-    mul-b-2
-    shared-slice-read-b
-    add-b-2
-    shared-slice-read-m
-    shared-slice-read-n
-    add-n
-    mul-later
-    sub-later
-    part-later-start
-    part-later-end
-    mul-later-2
-    sub-later-2
-    part-later-start-2
-    part-later-end-2
-    later-requires
-    returns-2)
+pub gives_way_spec : {M : Type 1} → statement M
+gives_way_spec = tie.close (tie.spec bounds-new-66 overflow_mul-e overflow_add-e offset_bounds-memo-e bounds-memo-e returns-then-new-memo overflow_mul-a overflow_mul-a-2 overflow_add-a offset_bounds-memo-e-2 bounds-memo-e-2 overflow_add-a-2 overflow_mul-b overflow_add-b offset_bounds-memo-e-3 bounds-memo-e-3 overflow_add-b-2 bounds-new-64 bounds-new-65 overflow_add-n offset_bounds-memo-a slice_bounds-later-count slice_bounds-later-start slice_bounds-later-end offset_bounds-new-m slice_bounds-later-count-2 slice_bounds-later-start-2 slice_bounds-later-end-2 later-requires returns)

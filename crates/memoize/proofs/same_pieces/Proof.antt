@@ -11,105 +11,85 @@ use Rattle.memoize.proofs.Keys.{Matching, matching_start, matching_next, matchin
 use Rattle.memoize.proofs.same_pieces.Statement.{statement}
 use Rattle.memoize.proofs.same_pieces.Tie as tie
 
-abbrev invariant-loop : tie.invariant-loop
+abbrev invariant-loop : tie.invariant-loop-i
 invariant-loop bytes at memo base new count slate₀ used₀ i₀ slate used i =
     (length slate ≡ length slate₀) × Slate slate × Matching (labels bytes new 0 count) (labels bytes memo base count) (label_at bytes memo base) count i used
 
-abbrev decreases-loop : tie.decreases-loop
+abbrev decreases-loop : tie.decreases-loop-i
 decreases-loop bytes at memo base new count slate₀ used₀ i₀ slate used i = count - i
 
-loop-holds : tie.Need-loop-init invariant-loop decreases-loop
-loop-holds c = let p = c.before.before.before.before.requires in (refl, p.0.slate, matching_start p.1 p.2)
+loop-i-init : tie.Need-loop-i-init invariant-loop decreases-loop
+loop-i-init c = let p = c.requires in (refl, p.0.slate, matching_start p.1 p.2)
 
-add-t13 : tie.Need-overflow-add-t13 invariant-loop decreases-loop
-add-t13 c = search rules
+overflow_add-x : tie.Need-overflow_add-x invariant-loop decreases-loop
+overflow_add-x c = search rules
 
-mul-t14 : tie.Need-overflow-mul-t14 invariant-loop decreases-loop
-mul-t14 c = search rules
+offset_bounds-new-i : tie.Need-offset_bounds-new-i invariant-loop decreases-loop
+offset_bounds-new-i c = search rules
 
-shared-slice-read-t16 : tie.Need-shared-slice-read-t16 invariant-loop decreases-loop
-shared-slice-read-t16 c = search rules
+bounds-new-i : tie.Need-bounds-new-i invariant-loop decreases-loop
+bounds-new-i c = search rules
 
-mul-t17 : tie.Need-overflow-mul-t17 invariant-loop decreases-loop
-mul-t17 c = search rules
+offset_bounds-new-i-in-loop-i : tie.Need-offset_bounds-new-i-in-loop-i invariant-loop decreases-loop
+offset_bounds-new-i-in-loop-i c = search rules
 
-shared-slice-read-t19 : tie.Need-shared-slice-read-t19 invariant-loop decreases-loop
-shared-slice-read-t19 c = search rules
+bounds-new-i-in-loop-i : tie.Need-bounds-new-i-in-loop-i invariant-loop decreases-loop
+bounds-new-i-in-loop-i c = search rules
 
-pick-requires : tie.Need-pick-requires invariant-loop decreases-loop
-pick-requires c κs =
-    let t = c.before.before.before in
-    let i = t.before.loop.i in
-    let h = t.loop-test.true in
-    let p = t.before.before.before.before.before.before.requires in
+pick-j-requires : tie.Need-pick-j-requires invariant-loop decreases-loop
+pick-j-requires c κs =
+    let t = c in
+    let i = t.loop-i.i in
+    let h = t.loop-i-test.true in
+    let p = t.requires in
     let b = p.2 in (
-      record { formed = p.0.formed; touch = p.0.touch; slate = t.before.loop.invariant.1 },
+      record { formed = p.0.formed; touch = p.0.touch; slate = t.loop-i.invariant.1 },
       p.1,
       rw (zero-add i) at (b.own i h),
       rw (zero-add i) at (b.connected i h),
       rw (zero-add i) at (b.hashes i h),
     )
 
-same_length : tie.Need-same-length invariant-loop decreases-loop
-same_length c = c.before.before.before.pick.auto.1.1.1.1.1.1.1.0 ∙ c.before.before.before.before.before.before.before.before.loop.invariant.0
+shape_of-slate-then-j-count : tie.Need-shape_of-slate-then-j-count invariant-loop decreases-loop
+shape_of-slate-then-j-count c = c.pick-j.auto.slate ∙ c.loop-i.invariant.0
+
+returns-then-j-count : tie.Need-returns-then-j-count invariant-loop decreases-loop
+returns-then-j-count c =
+    let t = c in
+    let l = t.loop-i in
+    let p = t.requires in
+    let k = c.pick-j in
+    (matching_fails p.1 p.2 l.invariant.2 t.loop-i-test.true k.ensures.0 c.if-j-count.true, k.ensures.1)
+
+overflow_cast-j : tie.Need-overflow_cast-j invariant-loop decreases-loop
+overflow_cast-j c = search rules
+
+insert-used-requires : tie.Need-insert-used-requires invariant-loop decreases-loop
+insert-used-requires c κs = search rules
+
+overflow_add-i : tie.Need-overflow_add-i invariant-loop decreases-loop
+overflow_add-i c = search rules
+
+loop-i-smaller : tie.Need-loop-i-smaller invariant-loop decreases-loop
+loop-i-smaller c = omega (arith, c.loop-i-test.true)
+
+loop-i-preserved : tie.Need-loop-i-preserved invariant-loop decreases-loop
+loop-i-preserved c =
+    let t = c in
+    let l = t.loop-i in
+    let p = t.requires in
+    let k = c.pick-j in
+    let next = matching_next p.1 p.2 l.invariant.2 t.loop-i-test.true k.ensures.0 c.if-j-count.false in
+    (k.auto.slate ∙ l.invariant.0, k.ensures.1, rw c.insert-used.ensures next)
+
+shape_of-slate : tie.Need-shape_of-slate invariant-loop decreases-loop
+shape_of-slate c = c.loop-i.invariant.0
 
 returns : tie.Need-returns invariant-loop decreases-loop
 returns c =
-    let t = c.before.before.before.before.before.before.before in
-    let l = t.before.loop in
-    let p = t.before.before.before.before.before.before.requires in
-    let k = c.before.before.before.pick in
-    (matching_fails p.1 p.2 l.invariant.2 t.loop-test.true k.ensures.0 c.if1.true, k.ensures.1)
+    let p = c.requires in
+    let l = c.loop-i in
+    (matching_done p.1 p.2 l.invariant.2 c.loop-i-test.false, l.invariant.1)
 
-cast-insert : tie.Need-overflow-cast-insert invariant-loop decreases-loop
-cast-insert c = search rules
-
-insert-requires : tie.Need-insert-requires invariant-loop decreases-loop
-insert-requires c κs = search rules
-
-add-i : tie.Need-overflow-add-i invariant-loop decreases-loop
-add-i c = search rules
-
-loop-less : tie.Need-loop-smaller invariant-loop decreases-loop
-loop-less c = omega (arith, c.before.before.before.before.before.before.before.before.loop-test.true)
-
-loop-again : tie.Need-loop-preserved invariant-loop decreases-loop
-loop-again c =
-    let t = c.before.before.before.before.before.before.before.before in
-    let l = t.before.loop in
-    let p = t.before.before.before.before.before.before.requires in
-    let k = c.before.before.before.before.pick in
-    let next = matching_next p.1 p.2 l.invariant.2 t.loop-test.true k.ensures.0 c.before.if1.false in
-    (k.auto.1.1.1.1.1.1.1.0 ∙ l.invariant.0, k.ensures.1, rw c.insert.ensures next)
-
-same-length-2 : tie.Need-same-length-2 invariant-loop decreases-loop
-same-length-2 c = c.before.loop.invariant.0
-
-returns-2 : tie.Need-returns-2 invariant-loop decreases-loop
-returns-2 c =
-    let p = c.before.before.before.before.before.before.requires in
-    let l = c.before.loop in
-    (matching_done p.1 p.2 l.invariant.2 c.loop-test.false, l.invariant.1)
-
-pub same-pieces-spec : {M : Type 1} → statement M
-same-pieces-spec =
-    tie.close
-    (tie.spec
-    invariant-loop
-    decreases-loop
-    loop-holds
-    add-t13
-    mul-t14
-    shared-slice-read-t16
-    mul-t17
-    shared-slice-read-t19
-    pick-requires
-    same_length
-    returns
-    cast-insert
-    insert-requires
-    add-i
-    loop-less
-    loop-again
-    same-length-2
-    returns-2)
+pub same_pieces_spec : {M : Type 1} → statement M
+same_pieces_spec = tie.close (tie.spec invariant-loop decreases-loop loop-i-init overflow_add-x offset_bounds-new-i bounds-new-i offset_bounds-new-i-in-loop-i bounds-new-i-in-loop-i pick-j-requires shape_of-slate-then-j-count returns-then-j-count overflow_cast-j insert-used-requires overflow_add-i loop-i-smaller loop-i-preserved shape_of-slate returns)

@@ -12,7 +12,7 @@ use Rattle.memoize.proofs.Standing.{Standing, standing_start, standing_next, sta
 use Rattle.memoize.proofs.stand_all.Statement.{statement}
 use Rattle.memoize.proofs.stand_all.Tie as tie
 
-abbrev invariant-loop : tie.invariant-loop
+abbrev invariant-loop : tie.invariant-loop-i
 invariant-loop bytes at pieces new₀ desk₀ slate₀ total₀ i₀ new desk slate total i =
     Cached bytes desk
     × Slate slate
@@ -21,103 +21,82 @@ invariant-loop bytes at pieces new₀ desk₀ slate₀ total₀ i₀ new desk sl
     × (length slate ≡ length slate₀)
     × Standing bytes pieces new total i
 
-abbrev decreases-loop : tie.decreases-loop
+abbrev decreases-loop : tie.decreases-loop-i
 decreases-loop bytes at pieces new₀ desk₀ slate₀ total₀ i₀ new desk slate total i = length pieces - i
 
 -- the turn of the loop that a call is in
-abbrev turn : tie.After-stands invariant-loop decreases-loop → tie.In-loop invariant-loop decreases-loop
+abbrev turn : tie.After-stands-known invariant-loop decreases-loop → tie.In-loop-i invariant-loop decreases-loop
 turn c = c.before.before.before.before
 
-loop-holds : tie.Need-loop-init invariant-loop decreases-loop
-loop-holds c = let w = c.before.before.before.before.before.requires.0 in (w.cached, w.slate, refl, refl, refl, standing_start)
+loop-i-init : tie.Need-loop-i-init invariant-loop decreases-loop
+loop-i-init c = let w = c.requires.0 in (w.cached, w.slate, refl, refl, refl, standing_start)
 
-mul-stands : tie.Need-overflow-mul-stands invariant-loop decreases-loop
-mul-stands c = search rules
+offset_bounds-pieces-i : tie.Need-offset_bounds-pieces-i invariant-loop decreases-loop
+offset_bounds-pieces-i c = search rules
 
-shared-slice-read-stands : tie.Need-shared-slice-read-stands invariant-loop decreases-loop
-shared-slice-read-stands c = search rules
+bounds-pieces-i : tie.Need-bounds-pieces-i invariant-loop decreases-loop
+bounds-pieces-i c = search rules
 
-stands-requires : tie.Need-stands-requires invariant-loop decreases-loop
-stands-requires c κs =
-    let p = c.before.before.before.before.before.before.before.before.before.before.requires in
-    let l = c.before.before.before.before.loop in
-    let h = c.before.before.before.loop-test.true in
+stands-known-requires : tie.Need-stands-known-requires invariant-loop decreases-loop
+stands-known-requires c κs =
+    let p = c.requires in
+    let l = c.loop-i in
+    let h = c.loop-i-test.true in
     (record { formed = p.0.formed; touch = p.0.touch; cached = l.invariant.0; slate = l.invariant.1 }, p.1.own l.i h, p.1.connected l.i h)
 
-mul-new : tie.Need-overflow-mul-new invariant-loop decreases-loop
-mul-new c = search rules
+offset_bounds-new-i : tie.Need-offset_bounds-new-i invariant-loop decreases-loop
+offset_bounds-new-i c = search rules
 
-slice-write-new : tie.Need-slice-write-new invariant-loop decreases-loop
-slice-write-new c = search rules
+bounds-new-i : tie.Need-bounds-new-i invariant-loop decreases-loop
+bounds-new-i c = search rules
 
-add-new : tie.Need-overflow-add-new invariant-loop decreases-loop
-add-new c = search rules
+overflow_add-new : tie.Need-overflow_add-new invariant-loop decreases-loop
+overflow_add-new c = search rules
 
-mul-new-2 : tie.Need-overflow-mul-new-2 invariant-loop decreases-loop
-mul-new-2 c = search rules
+offset_bounds-new-i-in-loop-i : tie.Need-offset_bounds-new-i-in-loop-i invariant-loop decreases-loop
+offset_bounds-new-i-in-loop-i c = search rules
 
-slice-write-new-2 : tie.Need-slice-write-new-2 invariant-loop decreases-loop
-slice-write-new-2 c = let t = turn c.before.before.before.before in simp length-set (omega (arith, t.before.loop.inv.2))
+bounds-new-i-in-loop-i : tie.Need-bounds-new-i-in-loop-i invariant-loop decreases-loop
+bounds-new-i-in-loop-i c = let t = turn c.before.before.before.before in simp length-set (omega (arith, t.loop-i.invariant.2))
 
-add_total : tie.Need-overflow-add-total invariant-loop decreases-loop
-add_total c =
-    let k = c.before.before.before.before.before in
-    let t = turn k in
-    let l = t.before.loop in
+overflow_add-total : tie.Need-overflow_add-total invariant-loop decreases-loop
+overflow_add-total c =
+    let k = c in
+    let t = turn k.before.before.before.before.before in
+    let l = t.loop-i in
     let s = t.before.before.before.before.before.before.before in
     let small = hash_small (label s.args.bytes.now (get_or s.args.pieces.now l.i 0)) in
-    omega (arith, l.inv.5.small, small, k.stands.ensures.0.0, t.loop-test.taken, s.pre.2)
+    omega (arith, l.invariant.5.small, small, k.stands-known.ensures.0.0, t.loop-i-test.true, s.requires.2)
 
-add-i : tie.Need-overflow-add-i invariant-loop decreases-loop
-add-i c = search rules
+overflow_add-i : tie.Need-overflow_add-i invariant-loop decreases-loop
+overflow_add-i c = search rules
 
-loop-less : tie.Need-loop-smaller invariant-loop decreases-loop
-loop-less c = omega (arith, (turn c.before.before.before.before.before).loop-test.taken)
+loop-i-smaller : tie.Need-loop-i-smaller invariant-loop decreases-loop
+loop-i-smaller c = omega (arith, (turn c.before.before.before.before.before).loop-i-test.true)
 
-loop-again : tie.Need-loop-preserved invariant-loop decreases-loop
-loop-again c =
-    let k = c.before.before.before.before.before.stands in
+loop-i-preserved : tie.Need-loop-i-preserved invariant-loop decreases-loop
+loop-i-preserved c =
+    let k = c.stands-known in
     let e = k.ensures in
     let t = turn c.before.before.before.before.before in
-    let l = t.before.loop in
-    let v = l.inv in
-    let p = t.before.before.before.before.before.before.before.pre in
+    let l = t.loop-i in
+    let v = l.invariant in
+    let p = t.requires in
     let wide : 80 ≤ length l.new = omega (arith, v.2, p.3) in
-    let next = standing_next v.5 t.loop-test.taken p.2 wide e.0.0 e.0.1 in
-    (e.1.0, e.1.1, simp length-set v.2, k.auto.1.1.1.0 ∙ v.3, k.auto.1.1.1.1.0 ∙ v.4, next)
+    let next = standing_next v.5 t.loop-i-test.true p.2 wide e.0.0 e.0.1 in
+    (e.1.0, e.1.1, simp length-set v.2, k.auto.desk ∙ v.3, k.auto.slate ∙ v.4, next)
 
-same_length : tie.Need-same-length invariant-loop decreases-loop
-same_length c = c.before.loop.invariant.2
+shape_of-new : tie.Need-shape_of-new invariant-loop decreases-loop
+shape_of-new c = c.loop-i.invariant.2
 
-same-length-2 : tie.Need-same-length-2 invariant-loop decreases-loop
-same-length-2 c = c.before.loop.invariant.3
+shape_of-desk : tie.Need-shape_of-desk invariant-loop decreases-loop
+shape_of-desk c = c.loop-i.invariant.3
 
-same-length-3 : tie.Need-same-length-3 invariant-loop decreases-loop
-same-length-3 c = c.before.loop.invariant.4
+shape_of-slate : tie.Need-shape_of-slate invariant-loop decreases-loop
+shape_of-slate c = c.loop-i.invariant.4
 
 returns : tie.Need-returns invariant-loop decreases-loop
-returns c = let v = c.before.loop.invariant in (standing_done v.5 c.loop-test.false, (v.0, v.1))
+returns c = let v = c.loop-i.invariant in (standing_done v.5 c.loop-i-test.false, (v.0, v.1))
 
-pub stand-all-spec : {M : Type 1} → statement M
-stand-all-spec =
-    tie.close
-    (tie.spec
-    invariant-loop
-    decreases-loop
-    loop-holds
-    mul-stands
-    shared-slice-read-stands
-    stands-requires
-    mul-new
-    slice-write-new
-    add-new
-    mul-new-2
-    slice-write-new-2
-    add_total
-    add-i
-    loop-less
-    loop-again
-    same_length
-    same-length-2
-    same-length-3
-    returns)
+pub stand_all_spec : {M : Type 1} → statement M
+stand_all_spec = tie.close (tie.spec invariant-loop decreases-loop loop-i-init offset_bounds-pieces-i bounds-pieces-i stands-known-requires offset_bounds-new-i bounds-new-i overflow_add-new offset_bounds-new-i-in-loop-i bounds-new-i-in-loop-i overflow_add-total overflow_add-i loop-i-smaller loop-i-preserved shape_of-new shape_of-desk shape_of-slate returns)

@@ -16,73 +16,59 @@ use Rattle.state.proofs.keep.Tie as tie
 abbrev left : List ℕ → ℕ → ℕ → List ℕ
 left touch kept p = big_parts touch (bit_and p kept)
 
-abbrev invariant-loop : tie.invariant-loop
+abbrev invariant-loop : tie.invariant-loop-i
 invariant-loop touch pieces kept out₀ k₀ i₀ out k i = Written (left touch kept) size 0 pieces out₀ out i k
 
-abbrev decreases-loop : tie.decreases-loop
+abbrev decreases-loop : tie.decreases-loop-i
 decreases-loop touch pieces kept out₀ k₀ i₀ out k i = length pieces - i
 
-loop-holds : tie.Need-loop-init invariant-loop decreases-loop
-loop-holds c = let a = c.before.before.args in written_start (left a.touch.now a.kept) size 0 a.pieces.now a.out.now (omega (arith, c.before.before.requires))
+loop-i-init : tie.Need-loop-i-init invariant-loop decreases-loop
+loop-i-init c = let a = c.args in written_start (left a.touch.now a.kept) size 0 a.pieces.now a.out.now (omega (arith, c.requires))
 
-mul-common : tie.Need-overflow-mul-common invariant-loop decreases-loop
-mul-common c = search rules
+offset_bounds-pieces-i : tie.Need-offset_bounds-pieces-i invariant-loop decreases-loop
+offset_bounds-pieces-i c = search rules
 
-shared-slice-read-common : tie.Need-shared-slice-read-common invariant-loop decreases-loop
-shared-slice-read-common c = omega arith
+bounds-pieces-i : tie.Need-bounds-pieces-i invariant-loop decreases-loop
+bounds-pieces-i c = omega arith
 
 common-requires : tie.Need-common-requires invariant-loop decreases-loop
 common-requires c κs = search rules
 
-push-big-requires : tie.Need-push-big-requires invariant-loop decreases-loop
-push-big-requires c κs =
-    let a = c.before.before.before.before.before.before.before.args in
-    let l = c.before.before.before.before.loop in
+push_big-k-requires : tie.Need-push_big-k-requires invariant-loop decreases-loop
+push_big-k-requires c κs =
+    let a = c.args in
+    let l = c.loop-i in
     let room = written_room (left a.touch.now a.kept) size 0 a.pieces.now a.out.now l.out l.i l.k l.invariant (omega arith) in
-    rw c.before.common.ensures (omega (arith, room, common_size (get_or a.pieces.now l.i 0) a.kept))
+    rw c.common.ensures (omega (arith, room, common_size (get_or a.pieces.now l.i 0) a.kept))
 
-add-i : tie.Need-overflow-add-i invariant-loop decreases-loop
-add-i c = omega arith
+overflow_add-i : tie.Need-overflow_add-i invariant-loop decreases-loop
+overflow_add-i c = omega arith
 
-loop-less : tie.Need-loop-smaller invariant-loop decreases-loop
-loop-less c = omega arith
+loop-i-smaller : tie.Need-loop-i-smaller invariant-loop decreases-loop
+loop-i-smaller c = omega arith
 
-loop-again : tie.Need-loop-preserved invariant-loop decreases-loop
-loop-again c =
-    let a = c.before.before.before.before.before.before.before.before.before.before.args in
-    let l = c.before.before.before.before.before.before.before.loop in
+loop-i-preserved : tie.Need-loop-i-preserved invariant-loop decreases-loop
+loop-i-preserved c =
+    let a = c.args in
+    let l = c.loop-i in
     let p = get_or a.pieces.now l.i 0 in
-    let e : c.before.before.before.before.common.result ≡ bit_and p a.kept = c.before.before.before.before.common.ensures in
-    let w : c.before.before.before.before.common.result < 2 ^ 64 = search rules in
-    written_next (left a.touch.now a.kept) size 0 a.pieces.now a.out.now l.out c.before.before.push-big.new.1.1.0 l.i l.k c.before.before.push-big.result l.invariant (omega arith)
-    (rw e at c.before.before.push-big.ensures.0) (rw e at c.before.before.push-big.ensures.1) (common_room a.touch.now p a.kept (rw e at w))
+    let e : c.common.result ≡ bit_and p a.kept = c.common.ensures in
+    let w : c.common.result < 2 ^ 64 = search rules in
+    written_next (left a.touch.now a.kept) size 0 a.pieces.now a.out.now l.out c.push_big-k.new.out l.i l.k c.push_big-k.result l.invariant (omega arith)
+    (rw e at c.push_big-k.ensures.0) (rw e at c.push_big-k.ensures.1) (common_room a.touch.now p a.kept (rw e at w))
 
-same_length : tie.Need-same-length invariant-loop decreases-loop
-same_length c =
-    let a = c.before.before.before.before.args in
-    let l = c.before.loop in
+shape_of-out : tie.Need-shape_of-out invariant-loop decreases-loop
+shape_of-out c =
+    let a = c.args in
+    let l = c.loop-i in
     written_length (left a.touch.now a.kept) size 0 a.pieces.now a.out.now l.out l.i l.k l.invariant
 
 returns : tie.Need-returns invariant-loop decreases-loop
 returns c =
-    let a = c.before.before.before.before.args in
-    let l = c.before.loop in
+    let a = c.args in
+    let l = c.loop-i in
     let d = written_done (left a.touch.now a.kept) size 0 a.pieces.now a.out.now l.out l.i l.k l.invariant (omega arith) in
     (omega (arith, l.invariant.room), λ bytes ms w. rw (← keep_is bytes ms a.touch.now a.pieces.now a.kept w) (sym d.count, d.is))
 
 pub keep_spec : {M : Type 1} → statement M
-keep_spec =
-    tie.close
-    (tie.spec
-    invariant-loop
-    decreases-loop
-    loop-holds
-    mul-common
-    shared-slice-read-common
-    common-requires
-    push-big-requires
-    add-i
-    loop-less
-    loop-again
-    same_length
-    returns)
+keep_spec = tie.close (tie.spec invariant-loop decreases-loop loop-i-init offset_bounds-pieces-i bounds-pieces-i common-requires push_big-k-requires overflow_add-i loop-i-smaller loop-i-preserved shape_of-out returns)

@@ -5,33 +5,25 @@ use Rattle.state.proofs.Scanning.{owner_inside}
 use Rattle.state.proofs.scan.is_inside.Statement.{statement}
 use Rattle.state.proofs.scan.is_inside.Tie as tie
 
-lowest-requires : tie.Need-lowest-requires
-lowest-requires c κs = search rules
+lowest-b-requires : tie.Need-lowest-b-requires
+lowest-b-requires c κs = search rules
 
-cast-b : tie.Need-overflow-cast-b
-cast-b c = search rules
+overflow_cast-b : tie.Need-overflow_cast-b
+overflow_cast-b c = search rules
 
-mul-is-subset : tie.Need-overflow-mul-is-subset
-mul-is-subset c = search rules
+offset_bounds-own-b : tie.Need-offset_bounds-own-b
+offset_bounds-own-b c = search rules
 
-element-copy-out-is-subset : tie.Need-element-copy-out-is-subset
-element-copy-out-is-subset c = search rules
+bounds-own-b : tie.Need-bounds-own-b
+bounds-own-b c = search rules
 
-is-subset-requires : tie.Need-is-subset-requires
-is-subset-requires c κs = search rules
+is_subset-requires : tie.Need-is_subset-requires
+is_subset-requires c κs = search rules
 
 returns : tie.Need-returns
 returns c =
-    let a = c.before.before.before.args in
-    λ pieces w. c.is_subset.ensures ∙ owner_inside pieces a.own.now a.h c.before.before.lowest.result w c.before.before.lowest.ensures.within c.before.before.lowest.ensures.member
+    let a = c.args in
+    λ pieces w. c.is_subset.ensures ∙ owner_inside pieces a.own.now a.h c.lowest-b.result w c.lowest-b.ensures.within c.lowest-b.ensures.member
 
-pub is-inside-spec : {M : Type 1} → statement M
-is-inside-spec =
-    tie.close
-    (tie.spec
-    lowest-requires
-    cast-b
-    mul-is-subset
-    element-copy-out-is-subset
-    is-subset-requires
-    returns)
+pub is_inside_spec : {M : Type 1} → statement M
+is_inside_spec = tie.close (tie.spec lowest-b-requires overflow_cast-b offset_bounds-own-b bounds-own-b is_subset-requires returns)

@@ -7,60 +7,46 @@ use Rattle.state.proofs.Scanning.{Marking, marking_start, marking_next, marking_
 use Rattle.state.proofs.scan.mark.Statement.{statement}
 use Rattle.state.proofs.scan.mark.Tie as tie
 
-abbrev invariant-loop : tie.invariant-loop
+abbrev invariant-loop : tie.invariant-loop-rest
 invariant-loop own₀ p rest₀ own rest = Marking own₀ own p rest
 
-abbrev decreases-loop : tie.decreases-loop
+abbrev decreases-loop : tie.decreases-loop-rest
 decreases-loop own₀ p rest₀ own rest = size rest
 
-loop-holds : tie.Need-loop-init invariant-loop decreases-loop
-loop-holds c = marking_start c.before.args.own.now c.before.args.p (search rules)
+loop-rest-init : tie.Need-loop-rest-init invariant-loop decreases-loop
+loop-rest-init c = marking_start c.args.own.now c.args.p (search rules)
 
-lowest-requires : tie.Need-lowest-requires invariant-loop decreases-loop
-lowest-requires c κs = omega arith
+lowest-b-requires : tie.Need-lowest-b-requires invariant-loop decreases-loop
+lowest-b-requires c κs = omega arith
 
-cast-b : tie.Need-overflow-cast-b invariant-loop decreases-loop
-cast-b c = search rules
+overflow_cast-b : tie.Need-overflow_cast-b invariant-loop decreases-loop
+overflow_cast-b c = search rules
 
-mul-own : tie.Need-overflow-mul-own invariant-loop decreases-loop
-mul-own c = scaled_Fits c.lowest.result (length c.before.before.before.before.args.own.now) 8 (omega (arith, c.before.before.before.before.requires, c.lowest.ensures.within)) c.before.before.before.before.well-formed.0.1
+offset_bounds-own-b : tie.Need-offset_bounds-own-b invariant-loop decreases-loop
+offset_bounds-own-b c = scaled_Fits c.lowest-b.result (length c.args.own.now) 8 (omega (arith, c.requires, c.lowest-b.ensures.within)) c.well_formed.0.1
 
-slice-write-own : tie.Need-slice-write-own invariant-loop decreases-loop
-slice-write-own c = omega (arith, c.before.before.loop.invariant.long, c.before.before.before.before.requires, c.lowest.ensures.within)
+bounds-own-b : tie.Need-bounds-own-b invariant-loop decreases-loop
+bounds-own-b c = omega (arith, c.loop-rest.invariant.long, c.requires, c.lowest-b.ensures.within)
 
-without-lowest-requires : tie.Need-without-lowest-requires invariant-loop decreases-loop
-without-lowest-requires c κs = omega arith
+without_lowest-rest-requires : tie.Need-without_lowest-rest-requires invariant-loop decreases-loop
+without_lowest-rest-requires c κs = omega arith
 
-loop-less : tie.Need-loop-smaller invariant-loop decreases-loop
-loop-less c = omega (arith, c.without_lowest_lem.ensures.fewer)
+loop-rest-smaller : tie.Need-loop-rest-smaller invariant-loop decreases-loop
+loop-rest-smaller c = omega (arith, c.without_lowest-rest.ensures.fewer)
 
-loop-again : tie.Need-loop-preserved invariant-loop decreases-loop
-loop-again c =
-    let a = c.before.before.before.before.before.args in
-    let l = c.before.before.before.loop in
-    marking_next a.own.now l.own a.p l.rest c.before.lowest.result c.without_lowest_lem.result c.before.before.before.before.before.requires l.invariant c.before.lowest.ensures c.without_lowest_lem.ensures
+loop-rest-preserved : tie.Need-loop-rest-preserved invariant-loop decreases-loop
+loop-rest-preserved c =
+    let a = c.args in
+    let l = c.loop-rest in
+    marking_next a.own.now l.own a.p l.rest c.lowest-b.result c.without_lowest-rest.result c.requires l.invariant c.lowest-b.ensures c.without_lowest-rest.ensures
 
-same_length : tie.Need-same-length invariant-loop decreases-loop
-same_length c = c.before.loop.invariant.long
+shape_of-own : tie.Need-shape_of-own invariant-loop decreases-loop
+shape_of-own c = c.loop-rest.invariant.long
 
 returns : tie.Need-returns invariant-loop decreases-loop
 returns c =
-    let a = c.before.before.before.args in
-    marking_done a.own.now c.before.loop.own a.p c.before.loop.rest c.before.loop.invariant c.loop-test.false
+    let a = c.args in
+    marking_done a.own.now c.loop-rest.own a.p c.loop-rest.rest c.loop-rest.invariant c.loop-rest-test.false
 
 pub mark_spec : {M : Type 1} → statement M
-mark_spec =
-    tie.close
-    (tie.spec
-    invariant-loop
-    decreases-loop
-    loop-holds
-    lowest-requires
-    cast-b
-    mul-own
-    slice-write-own
-    without-lowest-requires
-    loop-less
-    loop-again
-    same_length
-    returns)
+mark_spec = tie.close (tie.spec invariant-loop decreases-loop loop-rest-init lowest-b-requires overflow_cast-b offset_bounds-own-b bounds-own-b without_lowest-rest-requires loop-rest-smaller loop-rest-preserved shape_of-own returns)

@@ -11,149 +11,120 @@ use Rattle.state.proofs.Scanning.{told_start, told_take, told_skip}
 use Rattle.state.proofs.scan.masks.Statement.{statement}
 use Rattle.state.proofs.scan.masks.Tie as tie
 
-abbrev invariant-loop : tie.invariant-loop
+abbrev invariant-loop : tie.invariant-loop-i
 invariant-loop pairs from matches own all masks₀ largest₀ first₀ i₀ masks largest first i =
     (from ≤ i) × (i ≤ matches) × (length masks ≡ 33) × ((ms : List Pair) (pieces : List ℕ) → Scanning pairs ms pieces own all → matches ≡ length ms → Told ms pieces i masks largest first)
 
-abbrev decreases-loop : tie.decreases-loop
+abbrev decreases-loop : tie.decreases-loop-i
 decreases-loop pairs from matches own all masks₀ largest₀ first₀ i₀ masks largest first i = i
 
 -- the function's entry, from within the loop
-abbrev start : tie.In-loop invariant-loop decreases-loop → tie.Start invariant-loop decreases-loop
+abbrev start : tie.In-loop-i invariant-loop decreases-loop → tie.Start invariant-loop decreases-loop
 start c = c.before.before.before.before.before.before.before.before
 
 -- the match looked at is one of the table's; its words are among the lent ones; and its size is a place of masks
-within : (c : tie.In-loop invariant-loop decreases-loop) → c.before.loop.i - 1 < length (start c).requires.2.0
-within c = omega (arith, (start c).requires.2.3, c.loop-test.true, c.before.loop.invariant.1)
+within : (c : tie.In-loop-i invariant-loop decreases-loop) → c.loop-i.i - 1 < length (start c).requires.2.0
+within c = omega (arith, (start c).requires.2.3, c.loop-i-test.true, c.loop-i.invariant.1)
 
-place : (c : tie.In-loop invariant-loop decreases-loop) (k : ℕ) → k < 4 → 4 * (c.before.loop.i - 1) + k < length (start c).args.pairs.now
+place : (c : tie.In-loop-i invariant-loop decreases-loop) (k : ℕ) → k < 4 → 4 * (c.loop-i.i - 1) + k < length (start c).args.pairs.now
 place c k h = omega (arith, within c, (start c).requires.2.2.room)
 
-few : (c : tie.In-loop invariant-loop decreases-loop) → get_or (start c).args.pairs.now (4 * (c.before.loop.i - 1) + 3) 0 < 33
-few c = omega (arith, (start c).requires.2.2.recorded.sized (c.before.loop.i - 1) (within c), (start c).requires.2.2.most (c.before.loop.i - 1) (within c))
+few : (c : tie.In-loop-i invariant-loop decreases-loop) → get_or (start c).args.pairs.now (4 * (c.loop-i.i - 1) + 3) 0 < 33
+few c = omega (arith, (start c).requires.2.2.recorded.sized (c.loop-i.i - 1) (within c), (start c).requires.2.2.most (c.loop-i.i - 1) (within c))
 
 zero-requires : tie.Need-zero-requires invariant-loop decreases-loop
 zero-requires c κs = search rules
 
-loop-holds : tie.Need-loop-init invariant-loop decreases-loop
-loop-holds c =
-    let a = c.before.before.before.before.before.before.args in
-    (omega (arith, c.before.before.before.before.before.before.requires.1), omega arith, c.before.before.zero.auto.0 ∙ c.before.before.before.before.before.before.requires.0, λ ms pieces w e. told_start ms pieces a.matches (length a.masks.now) c.before.before.zero.new.0 e c.before.before.zero.ensures)
+loop-i-init : tie.Need-loop-i-init invariant-loop decreases-loop
+loop-i-init c =
+    let a = c.args in
+    (omega (arith, c.requires.1), omega arith, c.zero.auto.words ∙ c.requires.0, λ ms pieces w e. told_start ms pieces a.matches (length a.masks.now) c.zero.new.words e c.zero.ensures)
 
-sub-i : tie.Need-overflow-sub-i invariant-loop decreases-loop
-sub-i c = omega arith
+overflow_sub-i : tie.Need-overflow_sub-i invariant-loop decreases-loop
+overflow_sub-i c = omega arith
 
-is-removable-requires : tie.Need-is-removable-requires invariant-loop decreases-loop
-is-removable-requires c κs = let p = (start c).requires.2 in (p.0, p.1, p.2, omega (arith, within c))
+is_removable-requires : tie.Need-is_removable-requires invariant-loop decreases-loop
+is_removable-requires c κs = let p = (start c).requires.2 in (p.0, p.1, p.2, omega (arith, within c))
 
-mul-k : tie.Need-overflow-mul-k invariant-loop decreases-loop
-mul-k c = omega (arith, place c.before.before 3 (omega arith), (start c.before.before).good.0.1)
+overflow_mul-k : tie.Need-overflow_mul-k invariant-loop decreases-loop
+overflow_mul-k c = omega (arith, place c.before.before 3 (omega arith), (start c.before.before).well_formed.0.1)
 
-add-k : tie.Need-overflow-add-k invariant-loop decreases-loop
-add-k c = omega (arith, place c.before.before 3 (omega arith), (start c.before.before).good.0.1)
+overflow_add-k : tie.Need-overflow_add-k invariant-loop decreases-loop
+overflow_add-k c = omega (arith, place c.before.before 3 (omega arith), (start c.before.before).well_formed.0.1)
 
-mul-k-2 : tie.Need-overflow-mul-k-2 invariant-loop decreases-loop
-mul-k-2 c = scaled_Fits _ (length (start c.before.before).args.pairs.now) 8 (place c.before.before _ (omega arith)) (start c.before.before).good.0.1
+offset_bounds-pairs-i : tie.Need-offset_bounds-pairs-i invariant-loop decreases-loop
+offset_bounds-pairs-i c = scaled_Fits _ (length (start c.before.before).args.pairs.now) 8 (place c.before.before _ (omega arith)) (start c.before.before).well_formed.0.1
 
-shared-slice-read-k : tie.Need-shared-slice-read-k invariant-loop decreases-loop
-shared-slice-read-k c = place c.before.before.before _ (omega arith)
+bounds-pairs-i : tie.Need-bounds-pairs-i invariant-loop decreases-loop
+bounds-pairs-i c = place c.before.before.before _ (omega arith)
 
-mul-union : tie.Need-overflow-mul-union invariant-loop decreases-loop
-mul-union c = omega (arith, few c.before.before.before)
+offset_bounds-masks-k : tie.Need-offset_bounds-masks-k invariant-loop decreases-loop
+offset_bounds-masks-k c = omega (arith, few c.before.before.before)
 
-slice-read-union : tie.Need-slice-read-union invariant-loop decreases-loop
-slice-read-union c = omega (arith, few c.before.before.before.before, c.before.before.before.before.before.loop.invariant.2)
+bounds-masks-k : tie.Need-bounds-masks-k invariant-loop decreases-loop
+bounds-masks-k c = omega (arith, few c.before.before.before.before, c.loop-i.invariant.2)
 
-mul-union-2 : tie.Need-overflow-mul-union-2 invariant-loop decreases-loop
-mul-union-2 c = omega (arith, place c.before.before.before.before 3 (omega arith), (start c.before.before.before.before).good.0.1)
+overflow_mul-i : tie.Need-overflow_mul-i invariant-loop decreases-loop
+overflow_mul-i c = omega (arith, place c.before.before.before.before 3 (omega arith), (start c.before.before.before.before).well_formed.0.1)
 
-add-union : tie.Need-overflow-add-union invariant-loop decreases-loop
-add-union c = omega (arith, place c.before.before.before.before 3 (omega arith), (start c.before.before.before.before).good.0.1)
+overflow_add-i : tie.Need-overflow_add-i invariant-loop decreases-loop
+overflow_add-i c = omega (arith, place c.before.before.before.before 3 (omega arith), (start c.before.before.before.before).well_formed.0.1)
 
-mul-union-3 : tie.Need-overflow-mul-union-3 invariant-loop decreases-loop
-mul-union-3 c = scaled_Fits _ (length (start c.before.before.before.before).args.pairs.now) 8 (place c.before.before.before.before _ (omega arith)) (start c.before.before.before.before).good.0.1
+offset_bounds-pairs-i-then-is_removable : tie.Need-offset_bounds-pairs-i-then-is_removable invariant-loop decreases-loop
+offset_bounds-pairs-i-then-is_removable c = scaled_Fits _ (length (start c.before.before.before.before).args.pairs.now) 8 (place c.before.before.before.before _ (omega arith)) (start c.before.before.before.before).well_formed.0.1
 
-shared-slice-read-union : tie.Need-shared-slice-read-union invariant-loop decreases-loop
-shared-slice-read-union c = place c.before.before.before.before.before _ (omega arith)
+bounds-pairs-i-then-is_removable : tie.Need-bounds-pairs-i-then-is_removable invariant-loop decreases-loop
+bounds-pairs-i-then-is_removable c = place c.before.before.before.before.before _ (omega arith)
 
 union-requires : tie.Need-union-requires invariant-loop decreases-loop
 union-requires c κs = tt
 
-mul-masks : tie.Need-overflow-mul-masks invariant-loop decreases-loop
-mul-masks c = omega (arith, few c.before.before.before.before.before.before)
+offset_bounds-masks-k-then-is_removable : tie.Need-offset_bounds-masks-k-then-is_removable invariant-loop decreases-loop
+offset_bounds-masks-k-then-is_removable c = omega (arith, few c.before.before.before.before.before.before)
 
-slice-write-masks : tie.Need-slice-write-masks invariant-loop decreases-loop
-slice-write-masks c = omega (arith, few c.before.before.before.before.before.before, c.before.before.before.before.before.before.before.loop.invariant.2)
+bounds-masks-k-then-is_removable : tie.Need-bounds-masks-k-then-is_removable invariant-loop decreases-loop
+bounds-masks-k-then-is_removable c = omega (arith, few c.before.before.before.before.before.before, c.loop-i.invariant.2)
 
-cast-larger : tie.Need-overflow-cast-larger invariant-loop decreases-loop
-cast-larger c = omega (arith, few c.before.before.before.before.before.before)
+overflow_cast-k : tie.Need-overflow_cast-k invariant-loop decreases-loop
+overflow_cast-k c = omega (arith, few c.before.before.before.before.before.before)
 
-larger-requires : tie.Need-larger-requires invariant-loop decreases-loop
-larger-requires c κs = tt
+larger-largest-requires : tie.Need-larger-largest-requires invariant-loop decreases-loop
+larger-largest-requires c κs = tt
 
-loop-less : tie.Need-loop-smaller invariant-loop decreases-loop
-loop-less c = omega (arith, c.before.before.before.before.before.before.before.loop-test.true)
+loop-i-smaller-then-is_removable : tie.Need-loop-i-smaller-then-is_removable invariant-loop decreases-loop
+loop-i-smaller-then-is_removable c = omega (arith, c.loop-i-test.true)
 
-loop-again : tie.Need-loop-preserved invariant-loop decreases-loop
-loop-again c =
+loop-i-preserved-then-is_removable : tie.Need-loop-i-preserved-then-is_removable invariant-loop decreases-loop
+loop-i-preserved-then-is_removable c =
     let a = (start c.before.before.before.before.before.before.before).args in
-    let l = c.before.before.before.before.before.before.before.before.loop in (
-      omega (arith, c.before.before.before.before.before.before.before.loop-test.true),
+    let l = c.loop-i in (
+      omega (arith, c.loop-i-test.true),
       omega (arith, l.invariant.1),
       length-set l.masks _ _ ∙ l.invariant.2,
-      λ ms pieces w e. rw (c.larger.ensures, c.before.union.ensures) (told_take a.pairs.now ms pieces a.own.now a.all w l.i l.first l.largest l.masks (omega (arith, c.before.before.before.before.before.before.before.loop-test.true)) (omega (arith, l.invariant.1)) (l.invariant.3 ms pieces w e) l.invariant.2 (sym c.before.before.before.before.before.if1.true ∙ c.before.before.before.before.before.before.is-removable.ensures ms pieces w (omega (arith, l.invariant.1, c.before.before.before.before.before.before.before.loop-test.true)))),
+      λ ms pieces w e. rw (c.larger-largest.ensures, c.union.ensures) (told_take a.pairs.now ms pieces a.own.now a.all w l.i l.first l.largest l.masks (omega (arith, c.loop-i-test.true)) (omega (arith, l.invariant.1)) (l.invariant.3 ms pieces w e) l.invariant.2 (sym c.if-is_removable.true ∙ c.is_removable.ensures ms pieces w (omega (arith, l.invariant.1, c.loop-i-test.true)))),
     )
 
-loop-less-2 : tie.Need-loop-smaller-2 invariant-loop decreases-loop
-loop-less-2 c = omega (arith, c.before.before.loop-test.true)
+loop-i-smaller : tie.Need-loop-i-smaller invariant-loop decreases-loop
+loop-i-smaller c = omega (arith, c.loop-i-test.true)
 
-loop-again-2 : tie.Need-loop-preserved-2 invariant-loop decreases-loop
-loop-again-2 c =
+loop-i-preserved : tie.Need-loop-i-preserved invariant-loop decreases-loop
+loop-i-preserved c =
     let a = (start c.before.before).args in
-    let l = c.before.before.before.loop in (
-      omega (arith, c.before.before.loop-test.true),
+    let l = c.loop-i in (
+      omega (arith, c.loop-i-test.true),
       omega (arith, l.invariant.1),
       l.invariant.2,
-      λ ms pieces w e. told_skip a.pairs.now ms pieces a.own.now a.all w l.i l.first l.largest l.masks (omega (arith, c.before.before.loop-test.true)) (omega (arith, l.invariant.1)) (l.invariant.3 ms pieces w e) (sym c.if1.false ∙ c.before.is-removable.ensures ms pieces w (omega (arith, l.invariant.1, c.before.before.loop-test.true))),
+      λ ms pieces w e. told_skip a.pairs.now ms pieces a.own.now a.all w l.i l.first l.largest l.masks (omega (arith, c.loop-i-test.true)) (omega (arith, l.invariant.1)) (l.invariant.3 ms pieces w e) (sym c.if-is_removable.false ∙ c.is_removable.ensures ms pieces w (omega (arith, l.invariant.1, c.loop-i-test.true))),
     )
 
-same_length : tie.Need-same-length invariant-loop decreases-loop
-same_length c = c.before.loop.invariant.2 ∙ sym c.before.before.before.before.before.before.before.before.requires.0
+shape_of-masks : tie.Need-shape_of-masks invariant-loop decreases-loop
+shape_of-masks c = c.loop-i.invariant.2 ∙ sym c.requires.0
 
 returns : tie.Need-returns invariant-loop decreases-loop
 returns c =
-    let l = c.before.loop in
-    let q : l.i ≡ c.before.before.before.before.before.before.before.before.args.from = omega (arith, l.invariant.0) in
+    let l = c.loop-i in
+    let q : l.i ≡ c.args.from = omega (arith, l.invariant.0) in
     (l.invariant.2, λ ms pieces w e. rw q at (l.invariant.3 ms pieces w e))
 
-pub masks-spec : {M : Type 1} → statement M
-masks-spec =
-    tie.close
-    (tie.spec
-    invariant-loop
-    decreases-loop
-    zero-requires
-    loop-holds
-    sub-i
-    is-removable-requires
-    mul-k
-    add-k
-    mul-k-2
-    shared-slice-read-k
-    mul-union
-    slice-read-union
-    mul-union-2
-    add-union
-    mul-union-3
-    shared-slice-read-union
-    union-requires
-    mul-masks
-    slice-write-masks
-    cast-larger
-    larger-requires
-    loop-less
-    loop-again
-    loop-less-2
-    loop-again-2
-    same_length
-    returns)
+pub masks_spec : {M : Type 1} → statement M
+masks_spec = tie.close (tie.spec invariant-loop decreases-loop zero-requires loop-i-init overflow_sub-i is_removable-requires overflow_mul-k overflow_add-k offset_bounds-pairs-i bounds-pairs-i offset_bounds-masks-k bounds-masks-k overflow_mul-i overflow_add-i offset_bounds-pairs-i-then-is_removable bounds-pairs-i-then-is_removable union-requires offset_bounds-masks-k-then-is_removable bounds-masks-k-then-is_removable overflow_cast-k larger-largest-requires loop-i-smaller-then-is_removable loop-i-preserved-then-is_removable loop-i-smaller loop-i-preserved shape_of-masks returns)

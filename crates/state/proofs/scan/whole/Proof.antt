@@ -10,49 +10,37 @@ use Rattle.state.proofs.Scanning.{whole_start, whole_next, whole_done}
 use Rattle.state.proofs.scan.whole.Statement.{statement}
 use Rattle.state.proofs.scan.whole.Tie as tie
 
-abbrev invariant-loop : tie.invariant-loop
+abbrev invariant-loop : tie.invariant-loop-i
 invariant-loop pieces all₀ i₀ all i = (i ≤ length pieces) × (bit_or all (unions (λ p. p) (drop i pieces)) ≡ unions (λ p. p) pieces)
 
-abbrev decreases-loop : tie.decreases-loop
+abbrev decreases-loop : tie.decreases-loop-i
 decreases-loop pieces all₀ i₀ all i = length pieces - i
 
-loop-holds : tie.Need-loop-init invariant-loop decreases-loop
-loop-holds c = (omega arith, whole_start c.before.args.pieces.now)
+loop-i-init : tie.Need-loop-i-init invariant-loop decreases-loop
+loop-i-init c = (omega arith, whole_start c.args.pieces.now)
 
-mul-union : tie.Need-overflow-mul-union invariant-loop decreases-loop
-mul-union c = search rules
+offset_bounds-pieces-i : tie.Need-offset_bounds-pieces-i invariant-loop decreases-loop
+offset_bounds-pieces-i c = search rules
 
-shared-slice-read-union : tie.Need-shared-slice-read-union invariant-loop decreases-loop
-shared-slice-read-union c = omega arith
+bounds-pieces-i : tie.Need-bounds-pieces-i invariant-loop decreases-loop
+bounds-pieces-i c = omega arith
 
-union-requires : tie.Need-union-requires invariant-loop decreases-loop
-union-requires c κs = search rules
+union-all-requires : tie.Need-union-all-requires invariant-loop decreases-loop
+union-all-requires c κs = search rules
 
-add-i : tie.Need-overflow-add-i invariant-loop decreases-loop
-add-i c = omega arith
+overflow_add-i : tie.Need-overflow_add-i invariant-loop decreases-loop
+overflow_add-i c = omega arith
 
-loop-less : tie.Need-loop-smaller invariant-loop decreases-loop
-loop-less c = omega arith
+loop-i-smaller : tie.Need-loop-i-smaller invariant-loop decreases-loop
+loop-i-smaller c = omega arith
 
-loop-again : tie.Need-loop-preserved invariant-loop decreases-loop
-loop-again c =
-    let l = c.before.before.before.loop in
-    (omega arith, rw c.union.ensures (whole_next c.before.before.before.before.before.args.pieces.now l.i l.all c.before.before.loop-test.true l.invariant.1))
+loop-i-preserved : tie.Need-loop-i-preserved invariant-loop decreases-loop
+loop-i-preserved c =
+    let l = c.loop-i in
+    (omega arith, rw c.union-all.ensures (whole_next c.args.pieces.now l.i l.all c.loop-i-test.true l.invariant.1))
 
 returns : tie.Need-returns invariant-loop decreases-loop
-returns c = whole_done c.before.before.before.args.pieces.now c.before.loop.i c.before.loop.all (omega arith) c.before.loop.invariant.1
+returns c = whole_done c.args.pieces.now c.loop-i.i c.loop-i.all (omega arith) c.loop-i.invariant.1
 
-pub whole-spec : {M : Type 1} → statement M
-whole-spec =
-    tie.close
-    (tie.spec
-    invariant-loop
-    decreases-loop
-    loop-holds
-    mul-union
-    shared-slice-read-union
-    union-requires
-    add-i
-    loop-less
-    loop-again
-    returns)
+pub whole_spec : {M : Type 1} → statement M
+whole_spec = tie.close (tie.spec invariant-loop decreases-loop loop-i-init offset_bounds-pieces-i bounds-pieces-i union-all-requires overflow_add-i loop-i-smaller loop-i-preserved returns)

@@ -12,115 +12,100 @@ use Rattle.tabulate.proofs.build.build.Statement.{statement}
 use Rattle.tabulate.proofs.build.build.Tie as tie
 
 -- the sizes are walked
-abbrev asked : tie.After-grow → tie.After-parts-room
+abbrev asked : tie.After-grow-end → tie.After-parts_room-p
 asked c = c.before.before.before.before
 
-abbrev entry : tie.After-grow → tie.Start
+abbrev entry : tie.After-grow-end → tie.Start
 entry c = (asked c).before.before.before.before
 
 -- every size had room
-abbrev walked : tie.Else2 → tie.After-grow
+abbrev walked : tie.Else-over-ne0 → tie.After-grow-end
 walked c = c.before.before.before
 
-whole : (c : tie.Else2) → let g = walked c in WholeTable (entry g).args.bytes.now g.grow.last.1.0 (asked g).parts-room.result
-    g.grow.result.nodes g.grow.result.matches
-whole c = (walked c).grow.ensures.whole (omega (arith, c.if2.false))
+whole : (c : tie.Else-over-ne0) → let g = walked c in WholeTable (entry g).args.bytes.now g.grow-end.new.parts (asked g).parts_room-p.result
+    g.grow-end.result.nodes g.grow-end.result.matches
+whole c = (walked c).grow-end.ensures.whole (omega (arith, c.if-over-ne0.false))
 
 -- and the matches have room
-abbrev grown : tie.Else3 → tie.After-grow
+abbrev grown : tie.Else-pairs_room-total → tie.After-grow-end
 grown c = walked c.before.before
 
-room : (c : tie.Else3) → (grown c).grow.result.matches ≤ pairs_room (length (entry (grown c)).args.pairs.now)
-room c = omega (arith, c.if3.false, c.before.pairs-room.ensures)
+room : (c : tie.Else-pairs_room-total) → (grown c).grow-end.result.matches ≤ pairs_room (length (entry (grown c)).args.pairs.now)
+room c = omega (arith, c.if-pairs_room-total.false, c.pairs_room.ensures)
 
-parts-room-requires : tie.Need-parts-room-requires
-parts-room-requires c κs = search rules
+parts_room-p-requires : tie.Need-parts_room-p-requires
+parts_room-p-requires c κs = search rules
 
-bonds-requires : tie.Need-bonds-requires
-bonds-requires c κs = let s = c.before.before.before.before in omega (arith, (accepted_formed s.args.bytes.now s.requires).sized.long)
+bonds-n-requires : tie.Need-bonds-n-requires
+bonds-n-requires c κs = let s = c in omega (arith, (accepted_formed s.args.bytes.now s.requires).sized.long)
 
-returns : tie.Need-returns
-returns c =
-    let a = c.before.before.before.before.before.before.args in
-    let k = c.before.before.parts-room in
-    let one = over_one a.bytes.now k.result (omega (arith, c.if1.true, c.before.bonds.ensures.0)) in
+returns-then-p-n : tie.Need-returns-then-p-n
+returns-then-p-n c =
+    let a = c.args in
+    let k = c.parts_room-p in
+    let one = over_one a.bytes.now k.result (omega (arith, c.if-p-n.true, c.bonds-n.ensures.0)) in
     let w = answer_parts a.bytes.now (length a.parts.now) a.pairs.now _ k.ensures 1 one in
     (w.0, (w.1, refl))
 
-grow-requires : tie.Need-grow-requires
-grow-requires c κs = search rules
+grow-end-requires : tie.Need-grow-end-requires
+grow-end-requires c κs = search rules
 
-same_length : tie.Need-same-length
-same_length c = search rules
+shape_of-parts-then-over-ne0 : tie.Need-shape_of-parts-then-over-ne0
+shape_of-parts-then-over-ne0 c = search rules
 
-returns-2 : tie.Need-returns-2
-returns-2 c =
-    let g = c.before.before.before in
+returns-then-over-ne0 : tie.Need-returns-then-over-ne0
+returns-then-over-ne0 c =
+    let g = c in
+    let a = (entry g.before.before.before).args in
+    let w = answer_parts a.bytes.now (length a.parts.now) a.pairs.now _ (asked g.before.before.before).parts_room-p.ensures _
+    (g.grow-end.ensures.first (omega (arith, c.if-over-ne0.true))) in
+    (w.0, (w.1, g.grow-end.auto.parts))
+
+pairs_room-requires : tie.Need-pairs_room-requires
+pairs_room-requires c κs = search rules
+
+shape_of-parts-then-pairs_room-total : tie.Need-shape_of-parts-then-pairs_room-total
+shape_of-parts-then-pairs_room-total c = search rules
+
+returns-then-pairs_room-total : tie.Need-returns-then-pairs_room-total
+returns-then-pairs_room-total c =
+    let e = c in
+    let g = walked e.before.before in
     let a = (entry g).args in
-    let w = answer_parts a.bytes.now (length a.parts.now) a.pairs.now _ (asked g).parts-room.ensures _
-    (g.grow.ensures.first (omega (arith, c.if2.true))) in
-    (w.0, (w.1, g.grow.auto.1.0))
-
-pairs-room-requires : tie.Need-pairs-room-requires
-pairs-room-requires c κs = search rules
-
-same-length-2 : tie.Need-same-length-2
-same-length-2 c = search rules
-
-returns-3 : tie.Need-returns-3
-returns-3 c =
-    let e = c.before.before in
-    let g = walked e in
-    let a = (entry g).args in
-    let w = answer_pairs a.bytes.now (length a.parts.now) a.pairs.now _ (asked g).parts-room.ensures _ _ _ (whole e)
-    (omega (arith, c.if3.true, c.before.pairs-room.ensures)) in
-    (w.0, (w.1, g.grow.kept.1.0))
+    let w = answer_pairs a.bytes.now (length a.parts.now) a.pairs.now _ (asked g).parts_room-p.ensures _ _ _ (whole e.before.before)
+    (omega (arith, c.if-pairs_room-total.true, c.pairs_room.ensures)) in
+    (w.0, (w.1, g.grow-end.auto.parts))
 
 write-requires : tie.Need-write-requires
 write-requires c κs =
-    let e = c.before.before in
-    let g = grown e in
+    let e = c in
+    let g = grown e.before in
     let s = entry g in
     let a = s.args in
-    let p = (asked g).parts-room.ensures in
-    let w = whole e.before.before in (
+    let p = (asked g).parts_room-p.ensures in
+    let w = whole e.before.before.before in (
       w.few,
-      omega (arith, p, g.grow.kept.1.0),
-      write_starts a.bytes.now (length a.parts.now) a.pairs.now _ p _ _ _ w s.pre (room e),
-      write_room a.bytes.now (length a.parts.now) a.pairs.now _ p _ _ _ w s.pre (room e),
+      omega (arith, p, g.grow-end.auto.parts),
+      write_starts a.bytes.now (length a.parts.now) a.pairs.now _ p _ _ _ w s.requires (room e.before),
+      write_room a.bytes.now (length a.parts.now) a.pairs.now _ p _ _ _ w s.requires (room e.before),
     )
 
-same-length-3 : tie.Need-same-length-3
-same-length-3 c = search rules
+shape_of-parts : tie.Need-shape_of-parts
+shape_of-parts c = search rules
 
-same-length-4 : tie.Need-same-length-4
-same-length-4 c = search rules
+shape_of-pairs : tie.Need-shape_of-pairs
+shape_of-pairs c = search rules
 
-returns-4 : tie.Need-returns-4
-returns-4 c =
-    let v = c.before.before.write.ensures in
-    let e = c.before.before.before.before.before in
-    let g = grown e in
+returns : tie.Need-returns
+returns c =
+    let v = c.write.ensures in
+    let e = c in
+    let g = grown e.before.before.before.before in
     let s = entry g in
     let a = s.args in
-    let w = answer_count a.bytes.now (length a.parts.now) a.pairs.now _ (asked g).parts-room.ensures _ _ _ (whole e.before.before) s.pre
-    (room e) _ _ v.0 v.1 in
-    (w.0, (w.1, g.grow.kept.1.0))
+    let w = answer_count a.bytes.now (length a.parts.now) a.pairs.now _ (asked g).parts_room-p.ensures _ _ _ (whole e.before.before.before.before.before.before) s.requires
+    (room e.before.before.before.before) _ _ v.0 v.1 in
+    (w.0, (w.1, g.grow-end.auto.parts))
 
-pub build-spec : {M : Type 1} → statement M
-build-spec =
-    tie.close
-    (tie.spec
-    parts-room-requires
-    bonds-requires
-    returns
-    grow-requires
-    same_length
-    returns-2
-    pairs-room-requires
-    same-length-2
-    returns-3
-    write-requires
-    same-length-3
-    same-length-4
-    returns-4)
+pub build_spec : {M : Type 1} → statement M
+build_spec = tie.close (tie.spec parts_room-p-requires bonds-n-requires returns-then-p-n grow-end-requires shape_of-parts-then-over-ne0 returns-then-over-ne0 pairs_room-requires shape_of-parts-then-pairs_room-total returns-then-pairs_room-total write-requires shape_of-parts shape_of-pairs returns)

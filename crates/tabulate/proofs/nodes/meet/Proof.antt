@@ -12,89 +12,72 @@ use Rattle.tabulate.proofs.nodes.meet.Statement.{statement}
 use Rattle.tabulate.proofs.nodes.meet.Tie as tie
 
 -- they are disjoint
-abbrev entry : tie.Then1 → tie.Start
+abbrev entry : tie.Then-is_disjoint → tie.Start
 entry c = c.before.before.before.before.before
 
-disjoint : (c : tie.Then1) → let a = (entry c).args in is_disjoint (get_or a.parts.now (a.p + a.i) 0) (get_or a.parts.now (a.p + a.j) 0) ≡ true
-disjoint c = sym c.before.is-disjoint.ensures ∙ c.if1.true
+disjoint : (c : tie.Then-is_disjoint) → let a = (entry c).args in is_disjoint (get_or a.parts.now (a.p + a.i) 0) (get_or a.parts.now (a.p + a.j) 0) ≡ true
+disjoint c = sym c.is_disjoint.ensures ∙ c.if-is_disjoint.true
 
-add-x : tie.Need-overflow-add-x
-add-x c = search rules
+overflow_add-x : tie.Need-overflow_add-x
+overflow_add-x c = search rules
 
-mul-x : tie.Need-overflow-mul-x
-mul-x c = search rules
+offset_bounds-parts-p : tie.Need-offset_bounds-parts-p
+offset_bounds-parts-p c = search rules
 
-slice-read-x : tie.Need-slice-read-x
-slice-read-x c = search rules
+bounds-parts-p : tie.Need-bounds-parts-p
+bounds-parts-p c = search rules
 
-add-y : tie.Need-overflow-add-y
-add-y c = search rules
+overflow_add-y : tie.Need-overflow_add-y
+overflow_add-y c = search rules
 
-mul-y : tie.Need-overflow-mul-y
-mul-y c = search rules
+offset_bounds-parts-p-2 : tie.Need-offset_bounds-parts-p-2
+offset_bounds-parts-p-2 c = search rules
 
-slice-read-y : tie.Need-slice-read-y
-slice-read-y c = search rules
+bounds-parts-p-2 : tie.Need-bounds-parts-p-2
+bounds-parts-p-2 c = search rules
 
-is-disjoint-requires : tie.Need-is-disjoint-requires
-is-disjoint-requires c κs = search rules
+is_disjoint-requires : tie.Need-is_disjoint-requires
+is_disjoint-requires c κs = search rules
 
-name-requires : tie.Need-name-requires
-name-requires c κs = let f = (entry c.before).requires in (f.0, f.1, meet_first f.2)
+name-n-requires : tie.Need-name-n-requires
+name-n-requires c κs = let f = (entry c.before).requires in (f.0, f.1, meet_first f.2)
 
-same_length : tie.Need-same-length
-same_length c = search rules
+shape_of-parts-then-p-n : tie.Need-shape_of-parts-then-p-n
+shape_of-parts-then-p-n c = search rules
+
+returns-then-p-n : tie.Need-returns-then-p-n
+returns-then-p-n c =
+    let n = c in
+    let d = n in
+    (n.name-n.ensures.0, λ l nodes w. meet_over w (disjoint d.before.before.before.before.before) n.name-n.ensures c.if-p-n.true)
+
+name-k-requires : tie.Need-name-k-requires
+name-k-requires c κs =
+    let n = c in
+    let d = n in
+    let f = (entry d.before.before.before.before.before.before).requires in
+    (f.0, _, meet_second f.2 (disjoint d.before.before.before.before.before.before) n.name-n.ensures c.if-p-n.false)
+
+overflow_add-result : tie.Need-overflow_add-result
+overflow_add-result c = let d = c in omega (arith, meet_room (entry d.before.before.before.before.before.before.before.before.before.before).requires.2 (disjoint d.before.before.before.before.before.before.before.before.before.before))
+
+shape_of-parts-then-is_disjoint : tie.Need-shape_of-parts-then-is_disjoint
+shape_of-parts-then-is_disjoint c = search rules
+
+returns-then-is_disjoint : tie.Need-returns-then-is_disjoint
+returns-then-is_disjoint c =
+    let m = c in
+    let h = m in
+    let n = h in
+    let d = n in (
+      meet_beside (entry d.before.before.before.before.before.before.before.before.before.before).requires.2 (disjoint d.before.before.before.before.before.before.before.before.before.before) n.name-n.ensures h.if-p-n.false m.name-k.ensures,
+      λ l nodes w. meet_both w (disjoint d.before.before.before.before.before.before.before.before.before.before) n.name-n.ensures h.if-p-n.false m.name-k.ensures,
+    )
 
 returns : tie.Need-returns
 returns c =
-    let n = c.before.before.before in
-    let d = n.before.before in
-    (n.name.ensures.0, λ l nodes w. meet_over w (disjoint d) n.name.ensures c.if2.true)
+    let a = c.args in
+    (beside_same a.parts.now a.p a.done.nodes, λ l nodes w. meet_none w (sym c.is_disjoint.ensures ∙ c.if-is_disjoint.false))
 
-name-requires-2 : tie.Need-name-requires-2
-name-requires-2 c κs =
-    let n = c.before.before.before.before in
-    let d = n.before.before in
-    let f = (entry d).requires in
-    (f.0, _, meet_second f.2 (disjoint d) n.name.ensures c.before.if2.false)
-
-add-t22 : tie.Need-overflow-add-t22
-add-t22 c = let d = c.before.before.before.before.before.before.before.before.before.before in omega (arith, meet_room (entry d).requires.2 (disjoint d))
-
-same-length-2 : tie.Need-same-length-2
-same-length-2 c = search rules
-
-returns-2 : tie.Need-returns-2
-returns-2 c =
-    let m = c.before.before.before in
-    let h = m.before.before in
-    let n = h.before.before.before in
-    let d = n.before.before in (
-      meet_beside (entry d).requires.2 (disjoint d) n.name.ensures h.if2.false m.name2.ensures,
-      λ l nodes w. meet_both w (disjoint d) n.name.ensures h.if2.false m.name2.ensures,
-    )
-
-returns-3 : tie.Need-returns-3
-returns-3 c =
-    let a = c.before.before.before.before.before.args in
-    (beside_same a.parts.now a.p a.done.nodes, λ l nodes w. meet_none w (sym c.before.is-disjoint.ensures ∙ c.if1.false))
-
-pub meet-spec : {M : Type 1} → statement M
-meet-spec =
-    tie.close
-    (tie.spec
-    add-x
-    mul-x
-    slice-read-x
-    add-y
-    mul-y
-    slice-read-y
-    is-disjoint-requires
-    name-requires
-    same_length
-    returns
-    name-requires-2
-    add-t22
-    same-length-2
-    returns-2
-    returns-3)
+pub meet_spec : {M : Type 1} → statement M
+meet_spec = tie.close (tie.spec overflow_add-x offset_bounds-parts-p bounds-parts-p overflow_add-y offset_bounds-parts-p-2 bounds-parts-p-2 is_disjoint-requires name-n-requires shape_of-parts-then-p-n returns-then-p-n name-k-requires overflow_add-result shape_of-parts-then-is_disjoint returns-then-is_disjoint returns)

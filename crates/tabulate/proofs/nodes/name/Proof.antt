@@ -6,109 +6,84 @@ use Rattle.tabulate.proofs.Noding.{beside_same, beside_named, name_old, name_new
 use Rattle.tabulate.proofs.nodes.name.Statement.{statement}
 use Rattle.tabulate.proofs.nodes.name.Tie as tie
 
-mul-if1 : tie.Need-overflow-mul-if1
-mul-if1 c = search rules
+overflow_mul-p : tie.Need-overflow_mul-p
+overflow_mul-p c = search rules
 
-add-if1 : tie.Need-overflow-add-if1
-add-if1 c = search rules
+overflow_add-p : tie.Need-overflow_add-p
+overflow_add-p c = search rules
 
-mul-if1-2 : tie.Need-overflow-mul-if1-2
-mul-if1-2 c = search rules
+offset_bounds-parts-p : tie.Need-offset_bounds-parts-p
+offset_bounds-parts-p c = search rules
 
-slice-read-if1 : tie.Need-slice-read-if1
-slice-read-if1 c = search rules
+bounds-parts-p : tie.Need-bounds-parts-p
+bounds-parts-p c = search rules
+
+returns-then-parts-p-ne0 : tie.Need-returns-then-parts-p-ne0
+returns-then-parts-p-ne0 c =
+    let a = c.args in
+    (beside_same a.parts.now a.p a.count, λ l nodes w. name_old a.parts.now a.p l nodes a.i a.start a.count w c.if-parts-p-ne0.true)
+
+overflow_add-x : tie.Need-overflow_add-x
+overflow_add-x c = search rules
+
+offset_bounds-parts-p-then-count-p : tie.Need-offset_bounds-parts-p-then-count-p
+offset_bounds-parts-p-then-count-p c = search rules
+
+bounds-parts-p-then-count-p : tie.Need-bounds-parts-p-then-count-p
+bounds-parts-p-then-count-p c = search rules
+
+offset_bounds-parts-count : tie.Need-offset_bounds-parts-count
+offset_bounds-parts-count c = search rules
+
+bounds-parts-count : tie.Need-bounds-parts-count
+bounds-parts-count c = search rules
+
+overflow_mul-parts : tie.Need-overflow_mul-parts
+overflow_mul-parts c = search rules
+
+overflow_add-parts : tie.Need-overflow_add-parts
+overflow_add-parts c = search rules
+
+offset_bounds-parts-p-then-count-p-2 : tie.Need-offset_bounds-parts-p-then-count-p-2
+offset_bounds-parts-p-then-count-p-2 c = search rules
+
+bounds-parts-p-then-count-p-2 : tie.Need-bounds-parts-p-then-count-p-2
+bounds-parts-p-then-count-p-2 c = simp length-set (omega (arith, c.requires.2.noded.wide))
+
+overflow_mul-parts-then-count-p : tie.Need-overflow_mul-parts-then-count-p
+overflow_mul-parts-then-count-p c = search rules
+
+overflow_add-parts-then-count-p : tie.Need-overflow_add-parts-then-count-p
+overflow_add-parts-then-count-p c = search rules
+
+offset_bounds-parts-p-then-count-p-3 : tie.Need-offset_bounds-parts-p-then-count-p-3
+offset_bounds-parts-p-then-count-p-3 c = search rules
+
+bounds-parts-p-then-count-p-3 : tie.Need-bounds-parts-p-then-count-p-3
+bounds-parts-p-then-count-p-3 c = simp length-set (omega (arith, c.requires.2.noded.wide))
+
+overflow_add-result : tie.Need-overflow_add-result
+overflow_add-result c = search rules
+
+shape_of-parts-then-count-p : tie.Need-shape_of-parts-then-count-p
+shape_of-parts-then-count-p c = search rules
+
+returns-then-count-p : tie.Need-returns-then-count-p
+returns-then-count-p c =
+    let a = c.args in (
+      beside_named a.parts.now a.p a.i a.start a.count c.if-count-p.true
+          (omega (arith, c.requires.2.within, c.requires.2.noded.listed.fits)),
+      λ l nodes w. name_new a.parts.now a.p l nodes a.i a.start a.count w (omega (arith, c.if-parts-p-ne0.false))
+          c.if-count-p.true,
+    )
+
+overflow_add-result-2 : tie.Need-overflow_add-result-2
+overflow_add-result-2 c = search rules
 
 returns : tie.Need-returns
 returns c =
-    let a = c.before.before.args in
-    (beside_same a.parts.now a.p a.count, λ l nodes w. name_old a.parts.now a.p l nodes a.i a.start a.count w c.if1.true)
+    let a = c.args in
+    (beside_same a.parts.now a.p a.count, λ l nodes w. name_over a.parts.now a.p l nodes a.i a.start a.count w (omega (arith, c.if-parts-p-ne0.false)) c.if-count-p.false)
 
-add-x : tie.Need-overflow-add-x
-add-x c = search rules
-
-mul-x : tie.Need-overflow-mul-x
-mul-x c = search rules
-
-slice-read-x : tie.Need-slice-read-x
-slice-read-x c = search rules
-
-mul-parts : tie.Need-overflow-mul-parts
-mul-parts c = search rules
-
-slice-write-parts : tie.Need-slice-write-parts
-slice-write-parts c = search rules
-
-mul-parts-2 : tie.Need-overflow-mul-parts-2
-mul-parts-2 c = search rules
-
-add_parts : tie.Need-overflow-add-parts
-add_parts c = search rules
-
-mul-parts-3 : tie.Need-overflow-mul-parts-3
-mul-parts-3 c = search rules
-
-slice-write-parts-2 : tie.Need-slice-write-parts-2
-slice-write-parts-2 c = simp length-set (omega (arith, c.before.before.before.before.requires.2.noded.wide))
-
-mul-parts-4 : tie.Need-overflow-mul-parts-4
-mul-parts-4 c = search rules
-
-add-parts-2 : tie.Need-overflow-add-parts-2
-add-parts-2 c = search rules
-
-mul-parts-5 : tie.Need-overflow-mul-parts-5
-mul-parts-5 c = search rules
-
-slice-write-parts-3 : tie.Need-slice-write-parts-3
-slice-write-parts-3 c = simp length-set (omega (arith, c.before.before.before.before.requires.2.noded.wide))
-
-add-result : tie.Need-overflow-add-result
-add-result c = search rules
-
-same_length : tie.Need-same-length
-same_length c = search rules
-
-returns-2 : tie.Need-returns-2
-returns-2 c =
-    let a = c.before.before.before.before.args in (
-      beside_named a.parts.now a.p a.i a.start a.count c.before.if2.true
-          (omega (arith, c.before.before.before.before.requires.2.within, c.before.before.before.before.requires.2.noded.listed.fits)),
-      λ l nodes w. name_new a.parts.now a.p l nodes a.i a.start a.count w (omega (arith, c.before.before.if1.false))
-          c.before.if2.true,
-    )
-
-add-result-2 : tie.Need-overflow-add-result-2
-add-result-2 c = search rules
-
-returns-3 : tie.Need-returns-3
-returns-3 c =
-    let a = c.before.before.before.args in
-    (beside_same a.parts.now a.p a.count, λ l nodes w. name_over a.parts.now a.p l nodes a.i a.start a.count w (omega (arith, c.before.if1.false)) c.if2.false)
-
-pub name-spec : {M : Type 1} → statement M
-name-spec =
-    tie.close
-    (tie.spec
-    mul-if1
-    add-if1
-    mul-if1-2
-    slice-read-if1
-    returns
-    add-x
-    mul-x
-    slice-read-x
-    mul-parts
-    slice-write-parts
-    mul-parts-2
-    add_parts
-    mul-parts-3
-    slice-write-parts-2
-    mul-parts-4
-    add-parts-2
-    mul-parts-5
-    slice-write-parts-3
-    add-result
-    same_length
-    returns-2
-    add-result-2
-    returns-3)
+pub name_spec : {M : Type 1} → statement M
+name_spec = tie.close (tie.spec overflow_mul-p overflow_add-p offset_bounds-parts-p bounds-parts-p returns-then-parts-p-ne0 overflow_add-x offset_bounds-parts-p-then-count-p bounds-parts-p-then-count-p offset_bounds-parts-count bounds-parts-count overflow_mul-parts overflow_add-parts offset_bounds-parts-p-then-count-p-2 bounds-parts-p-then-count-p-2 overflow_mul-parts-then-count-p overflow_add-parts-then-count-p offset_bounds-parts-p-then-count-p-3 bounds-parts-p-then-count-p-3 overflow_add-result shape_of-parts-then-count-p returns-then-count-p overflow_add-result-2 returns)
