@@ -11,67 +11,51 @@ use Rattle.branch.proofs.below.Reads as reads
 use Rattle.branch.proofs.below.Lts as lts
 use Rattle.state.proofs.child.Reads as child-reads
 
-mul-child : tie.Need-overflow-mul-child
-mul-child c = search rules
+overflow_mul-m : tie.Need-overflow_mul-m
+overflow_mul-m c = search rules
 
-mul-child-2 : tie.Need-overflow-mul-child-2
-mul-child-2 c = search rules
+offset_bounds-pairs-m : tie.Need-offset_bounds-pairs-m
+offset_bounds-pairs-m c = search rules
 
-shared-slice-read-child : tie.Need-shared-slice-read-child
-shared-slice-read-child c = search rules
+bounds-pairs-m : tie.Need-bounds-pairs-m
+bounds-pairs-m c = search rules
 
-mul-child-3 : tie.Need-overflow-mul-child-3
-mul-child-3 c = search rules
+overflow_mul-m-2 : tie.Need-overflow_mul-m-2
+overflow_mul-m-2 c = search rules
 
-add-child : tie.Need-overflow-add-child
-add-child c = search rules
+overflow_add-m : tie.Need-overflow_add-m
+overflow_add-m c = search rules
 
-mul-child-4 : tie.Need-overflow-mul-child-4
-mul-child-4 c = search rules
+offset_bounds-pairs-m-2 : tie.Need-offset_bounds-pairs-m-2
+offset_bounds-pairs-m-2 c = search rules
 
-shared-slice-read-child-2 : tie.Need-shared-slice-read-child-2
-shared-slice-read-child-2 c = search rules
+bounds-pairs-m-2 : tie.Need-bounds-pairs-m-2
+bounds-pairs-m-2 c = search rules
 
-mul-child-5 : tie.Need-overflow-mul-child-5
-mul-child-5 c = search rules
+overflow_mul-m-3 : tie.Need-overflow_mul-m-3
+overflow_mul-m-3 c = search rules
 
-add-child-2 : tie.Need-overflow-add-child-2
-add-child-2 c = search rules
+overflow_add-m-2 : tie.Need-overflow_add-m-2
+overflow_add-m-2 c = search rules
 
-mul-child-6 : tie.Need-overflow-mul-child-6
-mul-child-6 c = search rules
+offset_bounds-pairs-m-3 : tie.Need-offset_bounds-pairs-m-3
+offset_bounds-pairs-m-3 c = search rules
 
-shared-slice-read-child-3 : tie.Need-shared-slice-read-child-3
-shared-slice-read-child-3 c = search rules
+bounds-pairs-m-3 : tie.Need-bounds-pairs-m-3
+bounds-pairs-m-3 c = search rules
 
-cast-child : tie.Need-overflow-cast-child
-cast-child c = let p = c.before.before.before.before.before.requires in omega (arith, word_size p.0 p.1 _ _ p.2 p.3 _ p.4 _ _ p.5)
+overflow_cast-pairs : tie.Need-overflow_cast-pairs
+overflow_cast-pairs c = let p = c.requires in omega (arith, word_size p.0 p.1 _ _ p.2 p.3 _ p.4 _ _ p.5)
 
 child-requires : tie.Need-child-requires
 child-requires c κs =
-    let p = c.before.before.before.before.before.requires in
-    let n : c.before.before.before.before.before.args.s.removed ≤ 32 = p.4.removals in
-    let e : length c.before.before.before.before.before.args.s.removals ≡ 32 = search rules in
+    let p = c.requires in
+    let n : c.args.s.removed ≤ 32 = p.4.removals in
+    let e : length c.args.s.removals ≡ 32 = search rules in
     below_asks p.0 p.1 _ _ p.2 p.3 _ p.4 _ _ p.5 (omega arith)
 
 returns : tie.Need-returns
 returns c = λ bytes at matches S E C. below_is bytes at _ _ matches S _ E _ _ C _ c.child.ensures.0 c.child.ensures.1
 
-pub below-spec : {M : Type 1} → statement M
-below-spec =
-    tie.close
-    (tie.spec
-    mul-child
-    mul-child-2
-    shared-slice-read-child
-    mul-child-3
-    add-child
-    mul-child-4
-    shared-slice-read-child-2
-    mul-child-5
-    add-child-2
-    mul-child-6
-    shared-slice-read-child-3
-    cast-child
-    child-requires
-    returns)
+pub below_spec : {M : Type 1} → statement M
+below_spec = tie.close (tie.spec overflow_mul-m offset_bounds-pairs-m bounds-pairs-m overflow_mul-m-2 overflow_add-m offset_bounds-pairs-m-2 bounds-pairs-m-2 overflow_mul-m-3 overflow_add-m-2 offset_bounds-pairs-m-3 bounds-pairs-m-3 overflow_cast-pairs child-requires returns)

@@ -5,11 +5,11 @@ use Rattle.branch.proofs.has.Tie as tie
 use Rattle.branch.proofs.has.Reads as reads
 use Rattle.branch.proofs.has.Lts as lts
 
+returns-then-bounds-bound : tie.Need-returns-then-bounds-bound
+returns-then-bounds-bound c = rw (eq-eqb _ _ c.if-bounds-bound.true)
+
 returns : tie.Need-returns
-returns c = rw (eq-eqb _ _ c.if1.true)
+returns c = rw (ne_eqb _ _ c.if-bounds-bound.false)
 
-returns-2 : tie.Need-returns-2
-returns-2 c = rw (ne_eqb _ _ c.if1.false)
-
-pub has-spec : {M : Type 1} → statement M
-has-spec = tie.close (tie.spec returns returns-2)
+pub has_spec : {M : Type 1} → statement M
+has_spec = tie.close (tie.spec returns-then-bounds-bound returns)

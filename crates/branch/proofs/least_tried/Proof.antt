@@ -12,17 +12,17 @@ use Rattle.bounds.proofs.least_size.Reads as least-size-reads
 has-requires : tie.Need-has-requires
 has-requires c κs = tt
 
+returns-then-not-has : tie.Need-returns-then-not-has
+returns-then-not-has c = sym (least_off _ _ _ _ _ _ (sym c.has.ensures ∙ c.if-not-has.true))
+
+least_size-requires : tie.Need-least_size-requires
+least_size-requires c κs = search rules
+
+overflow_cast-result : tie.Need-overflow_cast-result
+overflow_cast-result c = search rules
+
 returns : tie.Need-returns
-returns c = sym (least_off _ _ _ _ _ _ (sym c.before.has.ensures ∙ not-true _ c.if1.true))
+returns c = c.least_size.ensures ∙ sym (least_on _ _ _ _ _ _ (sym c.has.ensures ∙ c.if-not-has.false))
 
-least-size-requires : tie.Need-least-size-requires
-least-size-requires c κs = search rules
-
-cast-result : tie.Need-overflow-cast-result
-cast-result c = search rules
-
-returns-2 : tie.Need-returns-2
-returns-2 c = c.least_size.ensures ∙ sym (least_on _ _ _ _ _ _ (sym c.before.before.has.ensures ∙ not-false _ c.before.if1.false))
-
-pub least-tried-spec : {M : Type 1} → statement M
-least-tried-spec = tie.close (tie.spec has-requires returns least-size-requires cast-result returns-2)
+pub least_tried_spec : {M : Type 1} → statement M
+least_tried_spec = tie.close (tie.spec has-requires returns-then-not-has least_size-requires overflow_cast-result returns)

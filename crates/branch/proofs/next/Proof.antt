@@ -17,102 +17,86 @@ use Rattle.branch.proofs.next.Reads as reads
 use Rattle.branch.proofs.next.Lts as lts
 use Rattle.state.proofs.scan.is_removable.Reads as is-removable-reads
 
-abbrev invariant-loop : tie.invariant-loop
+abbrev invariant-loop : tie.invariant-loop-i
 invariant-loop pairs from matches own all least i₀ i =
     (from ≤ i) × (i ≤ matches) × ((bytes : Bytes) (ms : List Pair) (pieces : List ℕ) → Laws bytes ms → Scanning pairs ms pieces own all → matches ≡ length ms → tried_from bytes ms pieces least from ≡ tried_from bytes ms pieces least i)
 
-abbrev decreases-loop : tie.decreases-loop
+abbrev decreases-loop : tie.decreases-loop-i
 decreases-loop pairs from matches own all least i₀ i = matches - i
 
-loop-holds : tie.Need-loop-init invariant-loop decreases-loop
-loop-holds c = (omega arith, c.before.requires.0, λ bytes ms pieces M w e. refl)
+loop-i-init : tie.Need-loop-i-init invariant-loop decreases-loop
+loop-i-init c = (omega arith, c.requires.0, λ bytes ms pieces M w e. refl)
 
 -- the words of the match looked at are among the lent ones
-place : (c : tie.In-loop invariant-loop decreases-loop) → 4 * c.before.loop.i + 3 < length c.before.before.before.args.pairs.now
-place c = omega (arith, c.before.before.before.requires.1.2.room, c.before.before.before.requires.1.3, c.loop-test.true)
+place : (c : tie.In-loop-i invariant-loop decreases-loop) → 4 * c.loop-i.i + 3 < length c.args.pairs.now
+place c = omega (arith, c.requires.1.2.room, c.requires.1.3, c.loop-i-test.true)
 
-mul-if1 : tie.Need-overflow-mul-if1 invariant-loop decreases-loop
-mul-if1 c = omega (arith, place c, c.before.before.before.well-formed.0.1)
+overflow_mul-i : tie.Need-overflow_mul-i invariant-loop decreases-loop
+overflow_mul-i c = omega (arith, place c, c.well_formed.0.1)
 
-add-if1 : tie.Need-overflow-add-if1 invariant-loop decreases-loop
-add-if1 c = omega (arith, place c, c.before.before.before.well-formed.0.1)
+overflow_add-i : tie.Need-overflow_add-i invariant-loop decreases-loop
+overflow_add-i c = omega (arith, place c, c.well_formed.0.1)
 
-mul-if1-2 : tie.Need-overflow-mul-if1-2 invariant-loop decreases-loop
-mul-if1-2 c = scaled_Fits (4 * c.before.loop.i + 3) (length c.before.before.before.args.pairs.now) 8 (place c) c.before.before.before.well-formed.0.1
+offset_bounds-pairs-i : tie.Need-offset_bounds-pairs-i invariant-loop decreases-loop
+offset_bounds-pairs-i c = scaled_Fits (4 * c.loop-i.i + 3) (length c.args.pairs.now) 8 (place c) c.well_formed.0.1
 
-shared-slice-read-if1 : tie.Need-shared-slice-read-if1 invariant-loop decreases-loop
-shared-slice-read-if1 c = place c.before
+bounds-pairs-i : tie.Need-bounds-pairs-i invariant-loop decreases-loop
+bounds-pairs-i c = place c.before
 
-returns : tie.Need-returns invariant-loop decreases-loop
-returns c =
-    let l = c.before.before.before.loop in
+returns-then-pairs-i : tie.Need-returns-then-pairs-i invariant-loop decreases-loop
+returns-then-pairs-i c =
+    let l = c.loop-i in
     λ bytes ms pieces M w e.
-    let h : l.i < length ms = omega (arith, c.before.before.loop-test.true) in
+    let h : l.i < length ms = omega (arith, c.loop-i-test.true) in
     record {
       after = omega (arith, l.invariant.0, l.invariant.1);
       turn = end_turn bytes ms M pieces _ _ e;
-      same = l.invariant.2 bytes ms pieces M w e ∙ next_small bytes ms M pieces _ l.i h (omega (arith, w.recorded.sized l.i h, c.if1.true)) ∙ sym (next_end bytes ms M pieces _ _ e);
+      same = l.invariant.2 bytes ms pieces M w e ∙ next_small bytes ms M pieces _ l.i h (omega (arith, w.recorded.sized l.i h, c.if-pairs-i.true)) ∙ sym (next_end bytes ms M pieces _ _ e);
     }
 
-is-removable-requires : tie.Need-is-removable-requires invariant-loop decreases-loop
-is-removable-requires c κs = let p = c.before.before.before.before.before.requires.1 in (p.0, p.1, p.2, omega (arith, c.before.before.loop-test.true, p.3))
+is_removable-requires : tie.Need-is_removable-requires invariant-loop decreases-loop
+is_removable-requires c κs = let p = c.requires.1 in (p.0, p.1, p.2, omega (arith, c.loop-i-test.true, p.3))
 
-returns-2 : tie.Need-returns-2 invariant-loop decreases-loop
-returns-2 c =
-    let l = c.before.before.before.before.before.loop in
+returns-then-is_removable : tie.Need-returns-then-is_removable invariant-loop decreases-loop
+returns-then-is_removable c =
+    let l = c.loop-i in
     λ bytes ms pieces M w e.
-    let h : l.i < length ms = omega (arith, c.before.before.before.before.loop-test.true) in
+    let h : l.i < length ms = omega (arith, c.loop-i-test.true) in
     record {
       after = l.invariant.0;
       turn = record {
         within = omega arith;
-        removes = λ _. sym (c.before.is-removable.ensures ms pieces w h) ∙ c.if2.true;
-        large = λ _. omega (arith, w.recorded.sized l.i h, c.before.before.if1.false);
+        removes = λ _. sym (c.is_removable.ensures ms pieces w h) ∙ c.if-is_removable.true;
+        large = λ _. omega (arith, w.recorded.sized l.i h, c.if-pairs-i.false);
       };
       same = l.invariant.2 bytes ms pieces M w e;
     }
 
-add-i : tie.Need-overflow-add-i invariant-loop decreases-loop
-add-i c = search rules
+overflow_add-i-in-loop-i : tie.Need-overflow_add-i-in-loop-i invariant-loop decreases-loop
+overflow_add-i-in-loop-i c = search rules
 
-loop-less : tie.Need-loop-smaller invariant-loop decreases-loop
-loop-less c = omega (arith, c.before.before.before.before.loop-test.true)
+loop-i-smaller : tie.Need-loop-i-smaller invariant-loop decreases-loop
+loop-i-smaller c = omega (arith, c.loop-i-test.true)
 
-loop-again : tie.Need-loop-preserved invariant-loop decreases-loop
-loop-again c =
-    let l = c.before.before.before.before.before.loop in (
+loop-i-preserved : tie.Need-loop-i-preserved invariant-loop decreases-loop
+loop-i-preserved c =
+    let l = c.loop-i in (
       omega (arith, l.invariant.0),
-      omega (arith, c.before.before.before.before.loop-test.true),
+      omega (arith, c.loop-i-test.true),
       λ bytes ms pieces M w e.
-          let h : l.i < length ms = omega (arith, c.before.before.before.before.loop-test.true) in
-          l.invariant.2 bytes ms pieces M w e ∙ next_skip bytes ms M pieces _ l.i h (sym (c.before.is-removable.ensures ms pieces w h) ∙ c.if2.false),
+          let h : l.i < length ms = omega (arith, c.loop-i-test.true) in
+          l.invariant.2 bytes ms pieces M w e ∙ next_skip bytes ms M pieces _ l.i h (sym (c.is_removable.ensures ms pieces w h) ∙ c.if-is_removable.false),
     )
 
-returns-3 : tie.Need-returns-3 invariant-loop decreases-loop
-returns-3 c =
-    let l = c.before.loop in
+returns : tie.Need-returns invariant-loop decreases-loop
+returns c =
+    let l = c.loop-i in
     λ bytes ms pieces M w e.
     record {
       after = l.invariant.0;
-      turn = end_turn bytes ms M pieces _ _ (omega (arith, c.loop-test.false, l.invariant.1));
+      turn = end_turn bytes ms M pieces _ _ (omega (arith, c.loop-i-test.false, l.invariant.1));
       same = l.invariant.2 bytes ms pieces M w e;
     }
 
-pub next-spec : {M : Type 1} → statement M
-next-spec =
-    tie.close
-    (tie.spec
-    invariant-loop
-    decreases-loop
-    loop-holds
-    mul-if1
-    add-if1
-    mul-if1-2
-    shared-slice-read-if1
-    returns
-    is-removable-requires
-    returns-2
-    add-i
-    loop-less
-    loop-again
-    returns-3)
+pub next_spec : {M : Type 1} → statement M
+next_spec = tie.close (tie.spec invariant-loop decreases-loop loop-i-init overflow_mul-i overflow_add-i offset_bounds-pairs-i bounds-pairs-i returns-then-pairs-i is_removable-requires returns-then-is_removable overflow_add-i-in-loop-i loop-i-smaller loop-i-preserved returns)
