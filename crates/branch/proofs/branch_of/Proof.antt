@@ -17,10 +17,6 @@ use borrow.Author.Rules.{rules}
 use Rattle.branch.proofs.branch_of.Statement.{statement}
 use Rattle.branch.proofs.branch_of.Tie as tie
 
--- the length of the array of pieces
-long : (c : tie.After-pieces2) → length c.args.s.pieces ≡ 32
-long c = search rules
-
 -- the function's entry, from where the masks are made; and what is then known, from where the least size tried is asked
 abbrev start : tie.After-masks-1 → tie.Start
 start c = c.before.before.before.before.before.before.before.before
@@ -57,7 +53,7 @@ slice_bounds-owners-end : tie.Need-slice_bounds-owners-end
 slice_bounds-owners-end c = let e : length c.args.s.pieces ≡ 32 = search rules in omega (arith, e, c.requires.1.3.pieces)
 
 owners-own-requires : tie.Need-owners-own-requires
-owners-own-requires c κs = rw part_zero c.requires.1.3.fine.invariant.apart
+owners-own-requires c κs = rw part_zero c.requires.1.3.fine.inv.apart
 
 slice_bounds-whole-count : tie.Need-slice_bounds-whole-count
 slice_bounds-whole-count c = search rules
@@ -110,7 +106,7 @@ slice_bounds-least_tried-start : tie.Need-slice_bounds-least_tried-start
 slice_bounds-least_tried-start c = search rules
 
 slice_bounds-least_tried-end-2 : tie.Need-slice_bounds-least_tried-end-2
-slice_bounds-least_tried-end-2 c = let w = c in omega (arith, long w.before.before.before.before.before.before.before, (start w.before.before.before.before.before.before.before).requires.1.3.pieces)
+slice_bounds-least_tried-end-2 c = let e : length c.args.s.pieces ≡ 32 = search rules in omega (arith, e, c.requires.1.3.pieces)
 
 least_tried-least-requires : tie.Need-least_tried-least-requires
 least_tried-least-requires c κs =
