@@ -9,7 +9,7 @@ pub mod graph;
 mod rows;
 
 // Why a record is turned back: rows 1 to 6 of document 01, each with its place.
-#[derive(Drop)]
+#[derive(Clone, Copy)]
 pub enum Fault {
     Length(usize),
     Counts,

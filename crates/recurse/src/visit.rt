@@ -13,7 +13,7 @@ use search::Setting;
 use state::State;
 
 // What is carried from state to state: best, the states entered, and how many entries the memo has.
-#[derive(Drop)]
+#[derive(Clone, Copy)]
 pub struct Run {
     pub best: u32,
     pub states: u32,
@@ -21,7 +21,7 @@ pub struct Run {
 }
 
 // Row 0 with an answer and its trail, so many numbers, and what is carried then; or row 11 or 12 with its place.
-#[derive(Drop)]
+#[derive(Clone, Copy)]
 pub struct Outcome {
     pub row: u32,
     pub place: u64,
@@ -32,7 +32,7 @@ pub struct Outcome {
 }
 
 // A state that is entered goes on or is stopped, with what is carried then; or it ends the search on a row.
-#[derive(Drop)]
+#[derive(Clone, Copy)]
 pub enum Gate {
     Goes(Run),
     Stops(Run),

@@ -13,7 +13,7 @@ pub mod scan;
 
 // At most 32 pieces, of which so many are there; the index; the size of the largest removed; the number after the last removed; at most 32 removals,
 // of which so many are there.
-#[derive(Drop)]
+#[derive(Clone, Copy)]
 pub struct State {
     pub pieces: [u64; 32],
     pub count: usize,
