@@ -5,11 +5,11 @@ use Rattle.recurse.proofs.visit.better.Tie as tie
 use Rattle.recurse.proofs.visit.better.Reads as reads
 use Rattle.recurse.proofs.visit.better.Lts as lts
 
+returns-then-child-found : tie.Need-returns-then-child-found
+returns-then-child-found c = rw (lt-ltb _ _ c.if-child-found.true)
+
 returns : tie.Need-returns
-returns c = rw (lt-ltb _ _ c.if1.true)
+returns c = rw (le-ltb _ _ c.if-child-found.false)
 
-returns-2 : tie.Need-returns-2
-returns-2 c = rw (le-ltb _ _ c.before.if1.false)
-
-pub better-spec : {M : Type 1} → statement M
-better-spec = tie.close (tie.spec returns returns-2)
+pub better_spec : {M : Type 1} → statement M
+better_spec = tie.close (tie.spec returns-then-child-found returns)

@@ -18,47 +18,35 @@ use Rattle.bounds.proofs.int_bound.Reads as int-bound-reads
 has-requires : tie.Need-has-requires
 has-requires c κs = tt
 
+returns-then-not-has : tie.Need-returns-then-not-has
+returns-then-not-has c = λ bytes ms setting room e. stops_off bytes ms setting room _ _ _ e (sym c.has.ensures ∙ c.if-not-has.true)
+
+slice_bounds-int_bound-count : tie.Need-slice_bounds-int_bound-count
+slice_bounds-int_bound-count c = search rules
+
+slice_bounds-int_bound-start : tie.Need-slice_bounds-int_bound-start
+slice_bounds-int_bound-start c = search rules
+
+slice_bounds-int_bound-end : tie.Need-slice_bounds-int_bound-end
+slice_bounds-int_bound-end c = let e : length c.args.s.pieces ≡ 32 = search rules in omega (arith, e, c.requires.0)
+
+int_bound-j-requires : tie.Need-int_bound-j-requires
+int_bound-j-requires c κs = search rules
+
+overflow_cast-result-2 : tie.Need-overflow_cast-result-2
+overflow_cast-result-2 c = search rules
+
+overflow_add-result : tie.Need-overflow_add-result
+overflow_add-result c = search rules
+
+overflow_cast-result-3 : tie.Need-overflow_cast-result-3
+overflow_cast-result-3 c = search rules
+
 returns : tie.Need-returns
-returns c = λ bytes ms setting room e. stops_off bytes ms setting room _ _ _ e (sym c.before.has.ensures ∙ not-true _ c.if1.true)
+returns c = λ bytes ms setting room e.
+    let a = c.args in
+    let q : c.int_bound-j.result ≡ int_bound ceil_log2 (state_of a.s).pieces a.s.largest = rw part_zero at c.int_bound-j.ensures in
+    stops_on bytes ms setting room (state_of a.s) a.best a.bounds e (sym c.has.ensures ∙ c.if-not-has.false) c.int_bound-j.result q
 
-sub-int-bound : tie.Need-overflow-sub-int-bound
-sub-int-bound c = search rules
-
-part-int-bound-start : tie.Need-slice-bounds-int-bound-start
-part-int-bound-start c = search rules
-
-part-int-bound-end : tie.Need-slice-bounds-int-bound-end
-part-int-bound-end c = let e : length c.before.before.before.before.args.s.pieces ≡ 32 = search rules in omega (arith, e, c.before.before.before.before.requires.0)
-
-int-bound-requires : tie.Need-int-bound-requires
-int-bound-requires c κs = search rules
-
-cast-result : tie.Need-overflow-cast-result
-cast-result c = search rules
-
-add-result : tie.Need-overflow-add-result
-add-result c = search rules
-
-cast-result-2 : tie.Need-overflow-cast-result-2
-cast-result-2 c = search rules
-
-returns-2 : tie.Need-returns-2
-returns-2 c = λ bytes ms setting room e.
-    let a = c.before.before.before.before.before.before.before.args in
-    let q : c.before.int-bound.result ≡ int_bound ceil_log2 (state_of a.s).pieces a.s.largest = rw part_zero at c.before.int-bound.ensures in
-    stops_on bytes ms setting room (state_of a.s) a.best a.bounds e (sym c.before.before.before.before.before.before.has.ensures ∙ not-false _ c.before.before.before.before.before.if1.false) c.before.int-bound.result q
-
-pub int-stops-spec : {M : Type 1} → statement M
-int-stops-spec =
-    tie.close
-    (tie.spec
-    has-requires
-    returns
-    sub-int-bound
-    part-int-bound-start
-    part-int-bound-end
-    int-bound-requires
-    cast-result
-    add-result
-    cast-result-2
-    returns-2)
+pub int_stops_spec : {M : Type 1} → statement M
+int_stops_spec = tie.close (tie.spec has-requires returns-then-not-has slice_bounds-int_bound-count slice_bounds-int_bound-start slice_bounds-int_bound-end int_bound-j-requires overflow_cast-result-2 overflow_add-result overflow_cast-result-3 returns)

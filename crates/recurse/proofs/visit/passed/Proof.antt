@@ -3,27 +3,26 @@ use borrow.Author.Rules.{rules}
 use Rattle.recurse.proofs.visit.passed.Statement.{statement}
 use Rattle.recurse.proofs.visit.passed.Tie as tie
 
-enum_told : tie.Need-enum-told
-enum_told c = search rules
+enum_told-1 : tie.Need-enum_told-1
+enum_told-1 c = search rules
 
-enum-told-2 : tie.Need-enum-told-2
-enum-told-2 c = search rules
+enum_told-in-Full : tie.Need-enum_told-in-Full
+enum_told-in-Full c = search rules
 
-cast-t5 : tie.Need-overflow-cast-t5
-cast-t5 c = search rules
+overflow_cast-result : tie.Need-overflow_cast-result
+overflow_cast-result c = search rules
 
-enum-known-asked : tie.Need-enum-known-asked
-enum-known-asked c = search rules
+enum_known-asked : tie.Need-enum_known-asked
+enum_known-asked c = search rules
 
-returns : tie.Need-returns
-returns c = rw c.enum_told.given.1
+returns-in-Stopped : tie.Need-returns-in-Stopped
+returns-in-Stopped c = rw c.in-Stopped.is
 
-returns-2 : tie.Need-returns-2
-returns-2 c = rw c.before.enum-told2.given.1
+returns-in-Full : tie.Need-returns-in-Full
+returns-in-Full c = rw c.in-Full.is
 
-returns-3 : tie.Need-returns-3
-returns-3 c = rw c.before.asked.given.1
+returns-in-Goes : tie.Need-returns-in-Goes
+returns-in-Goes c = rw c.in-Goes.is
 
-pub passed-spec : {M : Type 1} → statement M
-passed-spec =
-    tie.close (tie.spec enum_told enum-told-2 cast-t5 enum-known-asked returns returns-2 returns-3)
+pub passed_spec : {M : Type 1} → statement M
+passed_spec = tie.close (tie.spec enum_told-1 enum_told-in-Full overflow_cast-result enum_known-asked returns-in-Stopped returns-in-Full returns-in-Goes)

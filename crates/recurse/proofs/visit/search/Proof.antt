@@ -16,20 +16,20 @@ many c =
     let r = c.args.bytes.now in
     (omega (arith, p.many, some r p.searched.ok), omega (arith, p.many, few r p.searched.ok))
 
-root-requires : tie.Need-root-requires
-root-requires c κs = many c.before.before.before.before.before
+root-s-requires : tie.Need-root-s-requires
+root-s-requires c κs = many c.before.before.before.before.before
 
-cast-t12 : tie.Need-overflow-cast-t12
-cast-t12 c = omega (arith, (many c.before.before.before.before.before.before).1)
+overflow_cast-run : tie.Need-overflow_cast-run
+overflow_cast-run c = omega (arith, (many c.before.before.before.before.before.before).1)
 
-sub-t13 : tie.Need-overflow-sub-t13
-sub-t13 c = omega (arith, (many c.before.before.before.before.before.before).0)
+overflow_sub-run : tie.Need-overflow_sub-run
+overflow_sub-run c = omega (arith, (many c.before.before.before.before.before.before).0)
 
 visit-requires : tie.Need-visit-requires
 visit-requires c κs =
-    let a = c.before.before.before.before.before.before.before.before.before.args in
-    let p = c.before.before.before.before.before.before.before.before.before.requires in
-    let s = c.before.before.before.root in
+    let a = c.args in
+    let p = c.requires in
+    let s = c.root-s in
     record {
       searched = p.searched;
       entered = root_entered a.bytes.now p.searched.ok s.result (s.ensures.0 a.bytes.now (pairs a.bytes.now) p.many) s.ensures.1;
@@ -38,32 +38,22 @@ visit-requires c κs =
       stored = ([], p.stored);
     }
 
-same_length : tie.Need-same-length
-same_length c = search rules
+shape_of-memo : tie.Need-shape_of-memo
+shape_of-memo c = search rules
 
-same-length-2 : tie.Need-same-length-2
-same-length-2 c = search rules
+shape_of-desk : tie.Need-shape_of-desk
+shape_of-desk c = search rules
 
-same-length-3 : tie.Need-same-length-3
-same-length-3 c = search rules
+shape_of-slate : tie.Need-shape_of-slate
+shape_of-slate c = search rules
 
 returns : tie.Need-returns
 returns c =
-    let a = c.before.before.before.before.before.before.before.before.before.before.before.before.before.before.before.before.args in
-    let p = c.before.before.before.before.before.before.before.before.before.before.before.before.before.before.before.before.requires in
-    let s = c.before.before.before.before.before.before.before.before.before.before.root in
-    let v = c.before.before.before.before.before.before.visit in
-    root_found a.bytes.now p.searched.ok s.result (s.ensures.0 a.bytes.now (pairs a.bytes.now) p.many) a.setting _ a.n p.many v.result v.new.1.1.1.1.1.0 (v.ensures.0 [] p.stored)
+    let a = c.args in
+    let p = c.requires in
+    let s = c.root-s in
+    let v = c.visit in
+    root_found a.bytes.now p.searched.ok s.result (s.ensures.0 a.bytes.now (pairs a.bytes.now) p.many) a.setting _ a.n p.many v.result v.new.memo (v.ensures.0 [] p.stored)
 
-pub search-spec : {M : Type 1} → statement M
-search-spec =
-    tie.close
-    (tie.spec
-    root-requires
-    cast-t12
-    sub-t13
-    visit-requires
-    same_length
-    same-length-2
-    same-length-3
-    returns)
+pub search_spec : {M : Type 1} → statement M
+search_spec = tie.close (tie.spec root-s-requires overflow_cast-run overflow_sub-run visit-requires shape_of-memo shape_of-desk shape_of-slate returns)
