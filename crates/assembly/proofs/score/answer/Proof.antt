@@ -11,86 +11,67 @@ use Rattle.assembly.proofs.score.answer.Tie as tie
 build-requires : tie.Need-build-requires
 build-requires c κs = search rules
 
-enum-known-n : tie.Need-enum-known-n
-enum-known-n c = search rules
+enum_known-n : tie.Need-enum_known-n
+enum_known-n c = search rules
 
 find-requires : tie.Need-find-requires
 find-requires c κs =
-    let s = c.before.before.before.before.before.before.before.before.before.before.before.before.before.before.before.before.before.before.before.before in
+    let s = c in
     let a = s.args in
-    let b = c.before.before.before.before.before.before.before.before.before.before.before.build in
-    let w = built_ready a.bytes.now (length a.parts.now) a.pairs.now b.new.1.1.0 _ (sym (ap answer_of c.before.before.before.before.before.n.given.1) ∙ b.ensures.0) b.ensures.1.0 in
+    let b = c.build in
+    let w = built_ready a.bytes.now (length a.parts.now) a.pairs.now b.new.pairs _ (sym (ap answer_of c.in-Count.is) ∙ b.ensures.0) b.ensures.1.0 in
     (s.requires.ok, w.0, w.1, w.2, w.3, s.requires.trail, s.requires.desk)
 
-enum-known-k : tie.Need-enum-known-k
-enum-known-k c = search rules
+enum_known-k : tie.Need-enum_known-k
+enum_known-k c = search rules
 
-enum-known-n-2 : tie.Need-enum-known-n-2
-enum-known-n-2 c = search rules
+enum_known-n-in-Pairs-1 : tie.Need-enum_known-n-in-Pairs-1
+enum_known-n-in-Pairs-1 c = search rules
 
-same_length : tie.Need-same-length
-same_length c = search rules
+shape_of-trail : tie.Need-shape_of-trail
+shape_of-trail c = search rules
 
-same-length-2 : tie.Need-same-length-2
-same-length-2 c = search rules
+shape_of-parts-in-Count : tie.Need-shape_of-parts-in-Count
+shape_of-parts-in-Count c = search rules
 
-same-length-3 : tie.Need-same-length-3
-same-length-3 c = search rules
+shape_of-pairs-in-Count : tie.Need-shape_of-pairs-in-Count
+shape_of-pairs-in-Count c = search rules
 
-same-length-4 : tie.Need-same-length-4
-same-length-4 c = search rules
+shape_of-memo : tie.Need-shape_of-memo
+shape_of-memo c = search rules
 
-same-length-5 : tie.Need-same-length-5
-same-length-5 c = search rules
+shape_of-desk : tie.Need-shape_of-desk
+shape_of-desk c = search rules
 
-returns : tie.Need-returns
-returns c =
-    let s = c.before.before.before.before.before.before.before.before.before.before.before.before.before.before.before.before.before.before.before.before.before.before.before.before.before.before.before in
+returns-in-Count : tie.Need-returns-in-Count
+returns-in-Count c =
+    let s = c in
     let a = s.args in
-    told_built a.bytes.now a.setting (loan a.trail.now a.parts.now a.pairs.now a.memo.now a.desk.now) s.requires _ _ (sym (ap answer_of c.before.before.before.before.before.before.before.before.before.before.before.before.n.given.1) ∙ c.before.before.before.before.before.before.before.before.before.before.before.before.before.before.before.before.before.before.build.ensures.0) _ c.before.before.before.before.before.before.find.ensures
+    told_built a.bytes.now a.setting (loan a.trail.now a.parts.now a.pairs.now a.memo.now a.desk.now) s.requires _ _ (sym (ap answer_of c.in-Count.is) ∙ c.build.ensures.0) _ c.find.ensures
 
-same-length-6 : tie.Need-same-length-6
-same-length-6 c = search rules
+shape_of-parts-in-Parts : tie.Need-shape_of-parts-in-Parts
+shape_of-parts-in-Parts c = search rules
 
-same-length-7 : tie.Need-same-length-7
-same-length-7 c = search rules
+shape_of-pairs-in-Parts : tie.Need-shape_of-pairs-in-Parts
+shape_of-pairs-in-Parts c = search rules
 
-returns-2 : tie.Need-returns-2
-returns-2 c =
-    let s = c.before.before.before.before.before.before.before.before.before.before.before.before.before.before.before.before in
+returns-in-Parts : tie.Need-returns-in-Parts
+returns-in-Parts c =
+    let s = c in
     let a = s.args in
-    told_table a.bytes.now a.setting (loan a.trail.now a.parts.now a.pairs.now a.memo.now a.desk.now) s.requires _ 9 _ refl (sym (ap answer_of c.before.k.given.1) ∙ c.before.before.before.before.before.before.before.build.ensures.0)
+    told_table a.bytes.now a.setting (loan a.trail.now a.parts.now a.pairs.now a.memo.now a.desk.now) s.requires _ 9 _ refl (sym (ap answer_of c.in-Parts.is) ∙ c.build.ensures.0)
 
-same-length-8 : tie.Need-same-length-8
-same-length-8 c = search rules
+shape_of-parts-in-Pairs : tie.Need-shape_of-parts-in-Pairs
+shape_of-parts-in-Pairs c = search rules
 
-same-length-9 : tie.Need-same-length-9
-same-length-9 c = search rules
+shape_of-pairs-in-Pairs : tie.Need-shape_of-pairs-in-Pairs
+shape_of-pairs-in-Pairs c = search rules
 
-returns-3 : tie.Need-returns-3
-returns-3 c =
-    let s = c.before.before.before.before.before.before.before.before.before.before.before.before.before.before.before.before in
+returns-in-Pairs : tie.Need-returns-in-Pairs
+returns-in-Pairs c =
+    let s = c in
     let a = s.args in
-    told_table a.bytes.now a.setting (loan a.trail.now a.parts.now a.pairs.now a.memo.now a.desk.now) s.requires _ 10 _ refl (sym (ap answer_of c.before.n2.given.1) ∙ c.before.before.before.before.before.before.before.build.ensures.0)
+    told_table a.bytes.now a.setting (loan a.trail.now a.parts.now a.pairs.now a.memo.now a.desk.now) s.requires _ 10 _ refl (sym (ap answer_of c.in-Pairs.is) ∙ c.build.ensures.0)
 
-pub answer-spec : {M : Type 1} → statement M
-answer-spec =
-    tie.close
-    (tie.spec
-    build-requires
-    enum-known-n
-    find-requires
-    enum-known-k
-    enum-known-n-2
-    same_length
-    same-length-2
-    same-length-3
-    same-length-4
-    same-length-5
-    returns
-    same-length-6
-    same-length-7
-    returns-2
-    same-length-8
-    same-length-9
-    returns-3)
+pub answer_spec : {M : Type 1} → statement M
+answer_spec = tie.close (tie.spec build-requires enum_known-n find-requires enum_known-k enum_known-n-in-Pairs-1 shape_of-trail shape_of-parts-in-Count shape_of-pairs-in-Count shape_of-memo shape_of-desk returns-in-Count shape_of-parts-in-Parts shape_of-pairs-in-Parts returns-in-Parts shape_of-parts-in-Pairs shape_of-pairs-in-Pairs returns-in-Pairs)

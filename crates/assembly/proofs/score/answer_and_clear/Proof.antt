@@ -7,8 +7,8 @@ use lib.ListN.{length, replicate}
 use Rattle.assembly.proofs.score.answer_and_clear.Statement.{statement}
 use Rattle.assembly.proofs.score.answer_and_clear.Tie as tie
 
-answer-requires : tie.Need-answer-requires
-answer-requires c κs = search rules
+answer-scored-requires : tie.Need-answer-scored-requires
+answer-scored-requires c κs = search rules
 
 zero-requires : tie.Need-zero-requires
 zero-requires c κs = search rules
@@ -22,20 +22,20 @@ zero-requires-3 c κs = search rules
 zero-requires-4 : tie.Need-zero-requires-4
 zero-requires-4 c κs = search rules
 
-same_length : tie.Need-same-length
-same_length c = search rules
+shape_of-trail : tie.Need-shape_of-trail
+shape_of-trail c = search rules
 
-same-length-2 : tie.Need-same-length-2
-same-length-2 c = search rules
+shape_of-parts : tie.Need-shape_of-parts
+shape_of-parts c = search rules
 
-same-length-3 : tie.Need-same-length-3
-same-length-3 c = search rules
+shape_of-pairs : tie.Need-shape_of-pairs
+shape_of-pairs c = search rules
 
-same-length-4 : tie.Need-same-length-4
-same-length-4 c = search rules
+shape_of-memo : tie.Need-shape_of-memo
+shape_of-memo c = search rules
 
-same-length-5 : tie.Need-same-length-5
-same-length-5 c = search rules
+shape_of-desk : tie.Need-shape_of-desk
+shape_of-desk c = search rules
 
 -- so many zeros, where the table had as many words
 zeros : (words now : List ℕ) (n : ℕ) → now ≡ replicate n 0 → n ≡ length words → now ≡ replicate (length words) 0
@@ -43,29 +43,16 @@ zeros words now n e same = e ∙ ap (λ (k : ℕ). replicate k 0) same
 
 returns : tie.Need-returns
 returns c =
-    let a = c.before.before.before.before.before.before.before.before.before.before.before.before.before.before.before.before.before.before.before.before.before.before.before.before.before.before.before.before.before.before.before.before.before.before.before.before.before.before.args in
-    let w = c.before.before.before.before.before.before.before.before.before.before.before.before.before.before.before.before.before.before.before.before.before.before.before.before.before.before.answer in (
+    let a = c.args in
+    let w = c.answer-scored in (
       w.ensures,
       record {
-        parts = zeros a.parts.now _ _ c.before.before.before.before.before.before.before.before.before.before.before.before.before.before.zero.ensures w.auto.1.1.1.0;
-        pairs = zeros a.pairs.now _ _ c.before.before.before.before.before.before.before.before.before.before.zero2.ensures w.auto.1.1.1.1.0;
-        memo = zeros a.memo.now _ _ c.before.before.before.before.before.before.zero3.ensures w.auto.1.1.1.1.1.0;
-        desk = zeros a.desk.now _ _ c.before.before.zero4.ensures w.auto.1.1.1.1.1.1.0;
+        parts = zeros a.parts.now _ _ c.zero.ensures w.auto.parts;
+        pairs = zeros a.pairs.now _ _ c.zero-2.ensures w.auto.pairs;
+        memo = zeros a.memo.now _ _ c.zero-3.ensures w.auto.memo;
+        desk = zeros a.desk.now _ _ c.zero-4.ensures w.auto.desk;
       },
     )
 
-pub answer-and-clear-spec : {M : Type 1} → statement M
-answer-and-clear-spec =
-    tie.close
-    (tie.spec
-    answer-requires
-    zero-requires
-    zero-requires-2
-    zero-requires-3
-    zero-requires-4
-    same_length
-    same-length-2
-    same-length-3
-    same-length-4
-    same-length-5
-    returns)
+pub answer_and_clear_spec : {M : Type 1} → statement M
+answer_and_clear_spec = tie.close (tie.spec answer-scored-requires zero-requires zero-requires-2 zero-requires-3 zero-requires-4 shape_of-trail shape_of-parts shape_of-pairs shape_of-memo shape_of-desk returns)

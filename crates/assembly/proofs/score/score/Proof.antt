@@ -10,50 +10,37 @@ use Rattle.assembly.proofs.score.score.Tie as tie
 check-requires : tie.Need-check-requires
 check-requires c κs = search rules
 
-enum_told : tie.Need-enum-told
-enum_told c = search rules
+enum_told-1 : tie.Need-enum_told-1
+enum_told-1 c = search rules
 
-score-accepted-requires : tie.Need-score-accepted-requires
-score-accepted-requires c κs = sym (sym (ap answer_of c.before.before.before.before.before.enum_told.given.1) ∙ c.before.before.before.before.before.before.before.check.ensures)
+score_accepted-requires : tie.Need-score_accepted-requires
+score_accepted-requires c κs = sym (sym (ap answer_of c.in-Accepted.is) ∙ c.check.ensures)
 
-enum-known-fault : tie.Need-enum-known-fault
-enum-known-fault c = search rules
+enum_known-fault : tie.Need-enum_known-fault
+enum_known-fault c = search rules
 
-same_length : tie.Need-same-length
-same_length c = search rules
+shape_of-trail : tie.Need-shape_of-trail
+shape_of-trail c = search rules
 
-same-length-2 : tie.Need-same-length-2
-same-length-2 c = search rules
+shape_of-parts : tie.Need-shape_of-parts
+shape_of-parts c = search rules
 
-same-length-3 : tie.Need-same-length-3
-same-length-3 c = search rules
+shape_of-pairs : tie.Need-shape_of-pairs
+shape_of-pairs c = search rules
 
-same-length-4 : tie.Need-same-length-4
-same-length-4 c = search rules
+shape_of-memo : tie.Need-shape_of-memo
+shape_of-memo c = search rules
 
-same-length-5 : tie.Need-same-length-5
-same-length-5 c = search rules
+shape_of-desk : tie.Need-shape_of-desk
+shape_of-desk c = search rules
 
-returns : tie.Need-returns
-returns c = search rules
+returns-in-Accepted : tie.Need-returns-in-Accepted
+returns-in-Accepted c = search rules
 
-returns-2 : tie.Need-returns-2
-returns-2 c =
-    let a = c.before.before.before.before.before.before.before.before.before.before.args in
-    answers_early (record_back a.bytes.now a.setting (room_of (loan a.trail.now a.parts.now a.pairs.now a.memo.now a.desk.now)) c.before.fault.given.0.0 (sym (sym (ap answer_of c.before.fault.given.1) ∙ c.before.before.before.check.ensures))) refl
+returns-in-Refused : tie.Need-returns-in-Refused
+returns-in-Refused c =
+    let a = c.args in
+    answers_early (record_back a.bytes.now a.setting (room_of (loan a.trail.now a.parts.now a.pairs.now a.memo.now a.desk.now)) c.in-Refused.fault (sym (sym (ap answer_of c.in-Refused.is) ∙ c.check.ensures))) refl
 
-pub score-spec : {M : Type 1} → statement M
-score-spec =
-    tie.close
-    (tie.spec
-    check-requires
-    enum_told
-    score-accepted-requires
-    enum-known-fault
-    same_length
-    same-length-2
-    same-length-3
-    same-length-4
-    same-length-5
-    returns
-    returns-2)
+pub score_spec : {M : Type 1} → statement M
+score_spec = tie.close (tie.spec check-requires enum_told-1 score_accepted-requires enum_known-fault shape_of-trail shape_of-parts shape_of-pairs shape_of-memo shape_of-desk returns-in-Accepted returns-in-Refused)

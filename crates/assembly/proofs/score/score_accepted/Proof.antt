@@ -7,68 +7,55 @@ use Rattle.assembly.proofs.Scoring.{bounds_back, memo_back, trail_back, desk_bac
 use Rattle.assembly.proofs.score.score_accepted.Statement.{statement}
 use Rattle.assembly.proofs.score.score_accepted.Tie as tie
 
+returns-then-setting-gt3 : tie.Need-returns-then-setting-gt3
+returns-then-setting-gt3 c =
+    let s = c in
+    let a = s.args in
+    answers_early (bounds_back a.bytes.now a.setting (room_of (loan a.trail.now a.parts.now a.pairs.now a.memo.now a.desk.now)) s.requires c.if-setting-gt3.true) refl
+
+returns-then-setting-gt1 : tie.Need-returns-then-setting-gt1
+returns-then-setting-gt1 c =
+    let s = c in
+    let a = s.args in
+    answers_early (memo_back a.bytes.now a.setting (room_of (loan a.trail.now a.parts.now a.pairs.now a.memo.now a.desk.now)) s.requires c.if-setting-gt1.true) refl
+
+returns-then-trail-lt32 : tie.Need-returns-then-trail-lt32
+returns-then-trail-lt32 c =
+    let s = c in
+    let a = s.args in
+    answers_early (trail_back a.bytes.now a.setting (room_of (loan a.trail.now a.parts.now a.pairs.now a.memo.now a.desk.now)) s.requires c.if-setting-gt3.false c.if-setting-gt1.false c.if-trail-lt32.true) refl
+
+returns-then-desk-lt4096 : tie.Need-returns-then-desk-lt4096
+returns-then-desk-lt4096 c =
+    let s = c in
+    let a = s.args in
+    answers_early (desk_back a.bytes.now a.setting (room_of (loan a.trail.now a.parts.now a.pairs.now a.memo.now a.desk.now)) s.requires c.if-setting-gt3.false c.if-setting-gt1.false c.if-desk-lt4096.true) refl
+
+answer_and_clear-requires : tie.Need-answer_and_clear-requires
+answer_and_clear-requires c κs = search rules
+
+shape_of-trail : tie.Need-shape_of-trail
+shape_of-trail c = search rules
+
+shape_of-parts : tie.Need-shape_of-parts
+shape_of-parts c = search rules
+
+shape_of-pairs : tie.Need-shape_of-pairs
+shape_of-pairs c = search rules
+
+shape_of-memo : tie.Need-shape_of-memo
+shape_of-memo c = search rules
+
+shape_of-desk : tie.Need-shape_of-desk
+shape_of-desk c = search rules
+
 returns : tie.Need-returns
 returns c =
-    let s = c.before.before.before.before.before.before.before.before in
+    let s = c in
     let a = s.args in
-    answers_early (bounds_back a.bytes.now a.setting (room_of (loan a.trail.now a.parts.now a.pairs.now a.memo.now a.desk.now)) s.requires c.if1.true) refl
-
-returns-2 : tie.Need-returns-2
-returns-2 c =
-    let s = c.before.before.before.before.before.before.before.before.before.before in
-    let a = s.args in
-    answers_early (memo_back a.bytes.now a.setting (room_of (loan a.trail.now a.parts.now a.pairs.now a.memo.now a.desk.now)) s.requires c.if2.true) refl
-
-returns-3 : tie.Need-returns-3
-returns-3 c =
-    let s = c.before.before.before.before.before.before.before.before.before.before.before in
-    let a = s.args in
-    answers_early (trail_back a.bytes.now a.setting (room_of (loan a.trail.now a.parts.now a.pairs.now a.memo.now a.desk.now)) s.requires c.before.before.before.if1.false c.before.if2.false c.if3.true) refl
-
-returns-4 : tie.Need-returns-4
-returns-4 c =
-    let s = c.before.before.before.before.before.before.before.before.before.before.before.before in
-    let a = s.args in
-    answers_early (desk_back a.bytes.now a.setting (room_of (loan a.trail.now a.parts.now a.pairs.now a.memo.now a.desk.now)) s.requires c.before.before.before.before.if1.false c.before.before.if2.false c.if4.true) refl
-
-answer-and-clear-requires : tie.Need-answer-and-clear-requires
-answer-and-clear-requires c κs = search rules
-
-same_length : tie.Need-same-length
-same_length c = search rules
-
-same-length-2 : tie.Need-same-length-2
-same-length-2 c = search rules
-
-same-length-3 : tie.Need-same-length-3
-same-length-3 c = search rules
-
-same-length-4 : tie.Need-same-length-4
-same-length-4 c = search rules
-
-same-length-5 : tie.Need-same-length-5
-same-length-5 c = search rules
-
-returns-5 : tie.Need-returns-5
-returns-5 c =
-    let s = c.before.before.before.before.before.before.before.before.before.before.before.before.before.before.before.before.before.before.before.before.before.before.before.before.before.before.before.before in
-    let a = s.args in
-    let w = c.before.before.before.before.before.before.before.before.before.before.answer-and-clear.ensures in
-    let e : Admitted a.bytes.now a.setting (loan a.trail.now a.parts.now a.pairs.now a.memo.now a.desk.now) = record { ok = s.requires; bounds = c.before.before.before.before.before.before.before.before.before.before.before.before.before.before.before.before.before.before.before.before.if1.false; memo = c.before.before.before.before.before.before.before.before.before.before.before.before.before.before.before.before.before.before.if2.false; trail = c.before.before.before.before.before.before.before.before.before.before.before.before.before.before.before.before.before.if3.false; desk = c.before.before.before.before.before.before.before.before.before.before.before.before.before.before.before.before.if4.false } in
+    let w = c.answer_and_clear.ensures in
+    let e : Admitted a.bytes.now a.setting (loan a.trail.now a.parts.now a.pairs.now a.memo.now a.desk.now) = record { ok = s.requires; bounds = c.if-setting-gt3.false; memo = c.if-setting-gt1.false; trail = c.if-trail-lt32.false; desk = c.if-desk-lt4096.false } in
     answers_by w.0.answer (leaves_cleared a.bytes.now a.setting (loan a.trail.now a.parts.now a.pairs.now a.memo.now a.desk.now) e _ w.0.ends w.1)
 
-pub score-accepted-spec : {M : Type 1} → statement M
-score-accepted-spec =
-    tie.close
-    (tie.spec
-    returns
-    returns-2
-    returns-3
-    returns-4
-    answer-and-clear-requires
-    same_length
-    same-length-2
-    same-length-3
-    same-length-4
-    same-length-5
-    returns-5)
+pub score_accepted_spec : {M : Type 1} → statement M
+score_accepted_spec = tie.close (tie.spec returns-then-setting-gt3 returns-then-setting-gt1 returns-then-trail-lt32 returns-then-desk-lt4096 answer_and_clear-requires shape_of-trail shape_of-parts shape_of-pairs shape_of-memo shape_of-desk returns)

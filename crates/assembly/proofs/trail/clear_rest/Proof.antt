@@ -16,35 +16,26 @@ ends k t m hk ht e =
     let a : k + (32 - k) ≡ 32 = omega arith in
     rw (e, n, drop-drop, a)
 
-mul-zero-numbers : tie.Need-overflow-mul-zero-numbers
-mul-zero-numbers c = search rules
+offset_bounds-trail-k : tie.Need-offset_bounds-trail-k
+offset_bounds-trail-k c = search rules
 
-sub-zero-numbers : tie.Need-overflow-sub-zero-numbers
-sub-zero-numbers c = search rules
+slice_bounds-zero_numbers-count : tie.Need-slice_bounds-zero_numbers-count
+slice_bounds-zero_numbers-count c = search rules
 
-part-zero-numbers-start : tie.Need-slice-bounds-zero-numbers-start
-part-zero-numbers-start c = search rules
+slice_bounds-zero_numbers-start : tie.Need-slice_bounds-zero_numbers-start
+slice_bounds-zero_numbers-start c = search rules
 
-part-zero-numbers-end : tie.Need-slice-bounds-zero-numbers-end
-part-zero-numbers-end c = search rules
+slice_bounds-zero_numbers-end : tie.Need-slice_bounds-zero_numbers-end
+slice_bounds-zero_numbers-end c = search rules
 
-zero-numbers-requires : tie.Need-zero-numbers-requires
-zero-numbers-requires c κs = search rules
+zero_numbers-requires : tie.Need-zero_numbers-requires
+zero_numbers-requires c κs = search rules
 
-same_length : tie.Need-same-length
-same_length c = search rules
+shape_of-trail : tie.Need-shape_of-trail
+shape_of-trail c = search rules
 
 returns : tie.Need-returns
-returns c = ends _ _ _ c.before.before.before.before.before.requires.0 c.before.before.before.before.before.requires.1 c.before.before.zero-numbers.ensures
+returns c = ends _ _ _ c.requires.0 c.requires.1 c.zero_numbers.ensures
 
-pub clear-rest-spec : {M : Type 1} → statement M
-clear-rest-spec =
-    tie.close
-    (tie.spec
-    mul-zero-numbers
-    sub-zero-numbers
-    part-zero-numbers-start
-    part-zero-numbers-end
-    zero-numbers-requires
-    same_length
-    returns)
+pub clear_rest_spec : {M : Type 1} → statement M
+clear_rest_spec = tie.close (tie.spec offset_bounds-trail-k slice_bounds-zero_numbers-count slice_bounds-zero_numbers-start slice_bounds-zero_numbers-end zero_numbers-requires shape_of-trail returns)

@@ -10,10 +10,10 @@ use lib.Seq.{drop-cons, take-suc, set_at}
 use Rattle.assembly.proofs.trail.copy.Statement.{statement}
 use Rattle.assembly.proofs.trail.copy.Tie as tie
 
-abbrev invariant-loop : tie.invariant-loop
+abbrev invariant-loop : tie.invariant-loop-i
 invariant-loop removals k trail₀ i₀ trail i = (i ≤ k) × (trail ≡ take i removals ++ drop i trail₀)
 
-abbrev decreases-loop : tie.decreases-loop
+abbrev decreases-loop : tie.decreases-loop-i
 decreases-loop removals k trail₀ i₀ trail i = k - i
 
 kept : (s d : List ℕ) (n : ℕ) → n ≤ length s → n ≤ length d → length (take n s ++ drop n d) ≡ length d
@@ -27,55 +27,41 @@ more s d n h g =
 done : (s d : List ℕ) (n k : ℕ) → n ≤ k → k ≤ n → take n s ++ drop n d ≡ take k s ++ drop k d
 done s d n k h g = let e : n ≡ k = omega arith in rw e
 
-loop-holds : tie.Need-loop-init invariant-loop decreases-loop
-loop-holds c = search rules
+loop-i-init : tie.Need-loop-i-init invariant-loop decreases-loop
+loop-i-init c = search rules
 
-mul-trail : tie.Need-overflow-mul-trail invariant-loop decreases-loop
-mul-trail c = scaled_Fits c.before.loop.i (length c.before.before.args.removals.now) 4 (omega arith) c.before.before.well-formed.0.1
+offset_bounds-removals-i : tie.Need-offset_bounds-removals-i invariant-loop decreases-loop
+offset_bounds-removals-i c = scaled_Fits c.loop-i.i (length c.args.removals.now) 4 (omega arith) c.well_formed.0.1
 
-shared-slice-read-trail : tie.Need-shared-slice-read-trail invariant-loop decreases-loop
-shared-slice-read-trail c = omega arith
+bounds-removals-i : tie.Need-bounds-removals-i invariant-loop decreases-loop
+bounds-removals-i c = omega arith
 
-mul-trail-2 : tie.Need-overflow-mul-trail-2 invariant-loop decreases-loop
-mul-trail-2 c = mul-trail c.before
+offset_bounds-trail-i : tie.Need-offset_bounds-trail-i invariant-loop decreases-loop
+offset_bounds-trail-i c = offset_bounds-removals-i c.before
 
-slice-write-trail : tie.Need-slice-write-trail invariant-loop decreases-loop
-slice-write-trail c =
-    let a = c.before.before.before.args in
-    rw (c.before.before.loop.invariant.1, kept a.removals.now a.trail.now c.before.before.loop.i (omega arith) (omega arith)) (omega arith)
+bounds-trail-i : tie.Need-bounds-trail-i invariant-loop decreases-loop
+bounds-trail-i c =
+    let a = c.args in
+    rw (c.loop-i.invariant.1, kept a.removals.now a.trail.now c.loop-i.i (omega arith) (omega arith)) (omega arith)
 
-add-i : tie.Need-overflow-add-i invariant-loop decreases-loop
-add-i c = search rules
+overflow_add-i : tie.Need-overflow_add-i invariant-loop decreases-loop
+overflow_add-i c = search rules
 
-loop-less : tie.Need-loop-smaller invariant-loop decreases-loop
-loop-less c = omega arith
+loop-i-smaller : tie.Need-loop-i-smaller invariant-loop decreases-loop
+loop-i-smaller c = omega arith
 
-loop-again : tie.Need-loop-preserved invariant-loop decreases-loop
-loop-again c =
-    let a = c.before.before.before.args in
-    (omega arith, rw c.before.before.loop.invariant.1 (more a.removals.now a.trail.now c.before.before.loop.i (omega arith) (omega arith)))
+loop-i-preserved : tie.Need-loop-i-preserved invariant-loop decreases-loop
+loop-i-preserved c =
+    let a = c.args in
+    (omega arith, rw c.loop-i.invariant.1 (more a.removals.now a.trail.now c.loop-i.i (omega arith) (omega arith)))
 
-same_length : tie.Need-same-length invariant-loop decreases-loop
-same_length c =
-    let a = c.before.before.args in
-    rw c.before.loop.invariant.1 (kept a.removals.now a.trail.now c.before.loop.i (omega arith) (omega arith))
+shape_of-trail : tie.Need-shape_of-trail invariant-loop decreases-loop
+shape_of-trail c =
+    let a = c.args in
+    rw c.loop-i.invariant.1 (kept a.removals.now a.trail.now c.loop-i.i (omega arith) (omega arith))
 
 returns : tie.Need-returns invariant-loop decreases-loop
-returns c = c.before.loop.invariant.1 ∙ done _ _ _ _ c.before.loop.invariant.0 c.loop-test.false
+returns c = c.loop-i.invariant.1 ∙ done _ _ _ _ c.loop-i.invariant.0 c.loop-i-test.false
 
 pub copy_spec : {M : Type 1} → statement M
-copy_spec =
-    tie.close
-    (tie.spec
-    invariant-loop
-    decreases-loop
-    loop-holds
-    mul-trail
-    shared-slice-read-trail
-    mul-trail-2
-    slice-write-trail
-    add-i
-    loop-less
-    loop-again
-    same_length
-    returns)
+copy_spec = tie.close (tie.spec invariant-loop decreases-loop loop-i-init offset_bounds-removals-i bounds-removals-i offset_bounds-trail-i bounds-trail-i overflow_add-i loop-i-smaller loop-i-preserved shape_of-trail returns)

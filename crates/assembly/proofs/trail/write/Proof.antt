@@ -24,16 +24,16 @@ after s t now end k h g e f =
 copy-requires : tie.Need-copy-requires
 copy-requires c κs = search rules
 
-clear-rest-requires : tie.Need-clear-rest-requires
-clear-rest-requires c κs = search rules
+clear_rest-requires : tie.Need-clear_rest-requires
+clear_rest-requires c κs = search rules
 
-same_length : tie.Need-same-length
-same_length c = search rules
+shape_of-trail : tie.Need-shape_of-trail
+shape_of-trail c = search rules
 
 returns : tie.Need-returns
 returns c =
-    let s = c.before.before.before.before.before.before.before.before.before.before in
-    after s.args.removals.now s.args.trail.now _ _ s.args.k s.requires.0 s.requires.1 c.before.before.before.before.before.before.copy.ensures c.before.before.clear-rest.ensures
+    let s = c in
+    after s.args.removals.now s.args.trail.now _ _ s.args.k s.requires.0 s.requires.1 c.copy.ensures c.clear_rest.ensures
 
 pub write_spec : {M : Type 1} → statement M
-write_spec = tie.close (tie.spec copy-requires clear-rest-requires same_length returns)
+write_spec = tie.close (tie.spec copy-requires clear_rest-requires shape_of-trail returns)
