@@ -3,8 +3,8 @@
 ghost use Rattle.std.specs.Prelude.{◌≡◌, length};
 ghost use Rattle.molecule.specs.Check.{check, number, place};
 ghost use Rattle.molecule.specs.Verdict.{number_of, place_of};
-ghost use Rattle.canonize.specs.Answer.{number as labelNumber, value as labelValue, label_answer, buffer_after};
-ghost use Rattle.tabulate.specs.Counted.{number as countNumber, value as countValue, count_answer, table_after};
+ghost use Rattle.canonize.specs.Answer.{number as label_number, value as label_value, label_answer, buffer_after};
+ghost use Rattle.tabulate.specs.Counted.{number as count_number, value as count_value, count_answer, table_after};
 ghost use Rattle.assembly.specs.Answer.{loan};
 ghost use Rattle.capi.specs.Reply.{asked, turned, reply_of, Answered};
 
@@ -43,8 +43,7 @@ fn turned_back(fault: Fault) -> Reply
 }
 
 // check.
-#[unsafe(no_mangle)]
-pub extern "C" fn assembly_check(bytes: &[u8]) -> Reply
+pub fn assembly_check(bytes: &[u8]) -> Reply
     ensures { (result.number ≡ number (check bytes.now)) × (result.place ≡ place (check bytes.now)) }
 {
     match molecule::check(bytes) {
@@ -54,10 +53,9 @@ pub extern "C" fn assembly_check(bytes: &[u8]) -> Reply
 }
 
 // label.
-#[unsafe(no_mangle)]
-pub extern "C" fn assembly_label(bytes: &[u8], set: u64, out: &mut [u8]) -> Reply
-    ensures answer { (result.number ≡ labelNumber (label_answer bytes.now set out.old))
-        × (result.place ≡ labelValue (label_answer bytes.now set out.old)) }
+pub fn assembly_label(bytes: &[u8], set: u64, out: &mut [u8]) -> Reply
+    ensures answer { (result.number ≡ label_number (label_answer bytes.now set out.old))
+        × (result.place ≡ label_value (label_answer bytes.now set out.old)) }
     ensures buffer { out.new ≡ buffer_after bytes.now set out.old }
 {
     match canonize::label(bytes, set, out) {
@@ -75,10 +73,9 @@ pub extern "C" fn assembly_label(bytes: &[u8], set: u64, out: &mut [u8]) -> Repl
 }
 
 // matches.
-#[unsafe(no_mangle)]
-pub extern "C" fn assembly_matches(bytes: &[u8], parts: &mut [u64], pairs: &mut [u64]) -> Reply
-    ensures answer { (result.number ≡ countNumber (count_answer bytes.now (length parts.old) (length pairs.old)))
-        × (result.place ≡ countValue (count_answer bytes.now (length parts.old) (length pairs.old))) }
+pub fn assembly_matches(bytes: &[u8], parts: &mut [u64], pairs: &mut [u64]) -> Reply
+    ensures answer { (result.number ≡ count_number (count_answer bytes.now (length parts.old) (length pairs.old)))
+        × (result.place ≡ count_value (count_answer bytes.now (length parts.old) (length pairs.old))) }
     ensures parts { parts.new ≡ table_after bytes.now parts.old }
     ensures pairs { pairs.new ≡ table_after bytes.now pairs.old }
 {
@@ -147,8 +144,7 @@ fn replied(scored: Scored) -> ScoreReply
 }
 
 // score.
-#[unsafe(no_mangle)]
-pub extern "C" fn assembly_score(
+pub fn assembly_score(
     bytes: &[u8],
     bounds: u32,
     memo: u32,

@@ -9,29 +9,27 @@ use Rattle.capi.proofs.assembly_check.Tie as tie
 check-requires : tie.Need-check-requires
 check-requires c κs = search rules
 
-enum_told : tie.Need-enum-told
-enum_told c = search rules
+enum_told-1 : tie.Need-enum_told-1
+enum_told-1 c = search rules
 
 answered-requires : tie.Need-answered-requires
 answered-requires c κs = search rules
 
-enum-known-fault : tie.Need-enum-known-fault
-enum-known-fault c = search rules
+enum_known-fault : tie.Need-enum_known-fault
+enum_known-fault c = search rules
 
-turned-back-requires : tie.Need-turned-back-requires
-turned-back-requires c κs = search rules
+turned_back-requires : tie.Need-turned_back-requires
+turned_back-requires c κs = search rules
 
-returns : tie.Need-returns
-returns c =
-    let e = sym (ap answer_of c.before.enum_told.given.1) ∙ c.before.before.before.check.ensures in
+returns-in-Accepted : tie.Need-returns-in-Accepted
+returns-in-Accepted c =
+    let e = sym (ap answer_of c.in-Accepted.is) ∙ c.check.ensures in
     (c.answered.ensures.0 ∙ ap number e, c.answered.ensures.1 ∙ ap place e)
 
-returns-2 : tie.Need-returns-2
-returns-2 c =
-    let e = sym (ap answer_of c.before.before.fault.given.1) ∙ c.before.before.before.before.check.ensures in
-    (c.turned_back_lem.ensures.0 ∙ ap number e, c.turned_back_lem.ensures.1 ∙ ap place e)
+returns-in-Refused : tie.Need-returns-in-Refused
+returns-in-Refused c =
+    let e = sym (ap answer_of c.in-Refused.is) ∙ c.check.ensures in
+    (c.turned_back.ensures.0 ∙ ap number e, c.turned_back.ensures.1 ∙ ap place e)
 
-pub assembly-check-spec : {M : Type 1} → statement M
-assembly-check-spec =
-    tie.close
-    (tie.spec check-requires enum_told answered-requires enum-known-fault turned-back-requires returns returns-2)
+pub assembly_check_spec : {M : Type 1} → statement M
+assembly_check_spec = tie.close (tie.spec check-requires enum_told-1 answered-requires enum_known-fault turned_back-requires returns-in-Accepted returns-in-Refused)

@@ -8,72 +8,55 @@ use Rattle.capi.proofs.assembly_label.Tie as tie
 label-requires : tie.Need-label-requires
 label-requires c κs = search rules
 
-enum-known-n : tie.Need-enum-known-n
-enum-known-n c = search rules
+enum_known-n : tie.Need-enum_known-n
+enum_known-n c = search rules
 
 answered-requires : tie.Need-answered-requires
 answered-requires c κs = search rules
 
-enum-known-fault : tie.Need-enum-known-fault
-enum-known-fault c = search rules
+enum_known-fault : tie.Need-enum_known-fault
+enum_known-fault c = search rules
 
-turned-back-requires : tie.Need-turned-back-requires
-turned-back-requires c κs = search rules
+turned_back-requires : tie.Need-turned_back-requires
+turned_back-requires c κs = search rules
 
-enum_told : tie.Need-enum-told
-enum_told c = search rules
+enum_told-1 : tie.Need-enum_told-1
+enum_told-1 c = search rules
 
-enum-told-2 : tie.Need-enum-told-2
-enum-told-2 c = search rules
+enum_told-in-Buffer : tie.Need-enum_told-in-Buffer
+enum_told-in-Buffer c = search rules
 
-same_length : tie.Need-same-length
-same_length c = search rules
+shape_of-out-in-Length : tie.Need-shape_of-out-in-Length
+shape_of-out-in-Length c = search rules
 
-returns : tie.Need-returns
-returns c =
-    let e = sym (ap answer_of c.before.before.n.given.1) ∙ c.before.before.before.before.before.before.label.ensures.0 in
-    ((c.answered.ensures.0 ∙ ap number e, c.answered.ensures.1 ∙ ap value e), c.before.before.before.before.before.before.label.ensures.1)
+returns-in-Length : tie.Need-returns-in-Length
+returns-in-Length c =
+    let e = sym (ap answer_of c.in-Length.is) ∙ c.label.ensures.0 in
+    ((c.answered.ensures.0 ∙ ap number e, c.answered.ensures.1 ∙ ap value e), c.label.ensures.1)
 
-same-length-2 : tie.Need-same-length-2
-same-length-2 c = search rules
+shape_of-out-in-Record : tie.Need-shape_of-out-in-Record
+shape_of-out-in-Record c = search rules
 
-returns-2 : tie.Need-returns-2
-returns-2 c =
-    let e = sym (ap answer_of c.before.before.fault.given.1) ∙ c.before.before.before.before.before.before.label.ensures.0 in
-    ((c.turned_back_lem.ensures.0 ∙ ap number e, c.turned_back_lem.ensures.1 ∙ ap value e), c.before.before.before.before.before.before.label.ensures.1)
+returns-in-Record : tie.Need-returns-in-Record
+returns-in-Record c =
+    let e = sym (ap answer_of c.in-Record.is) ∙ c.label.ensures.0 in
+    ((c.turned_back.ensures.0 ∙ ap number e, c.turned_back.ensures.1 ∙ ap value e), c.label.ensures.1)
 
-same-length-3 : tie.Need-same-length-3
-same-length-3 c = search rules
+shape_of-out-in-Set : tie.Need-shape_of-out-in-Set
+shape_of-out-in-Set c = search rules
 
-returns-3 : tie.Need-returns-3
-returns-3 c =
-    let e = sym (ap answer_of c.enum_told.given.1) ∙ c.before.before.before.before.label.ensures.0 in
-    ((ap number e, ap value e), c.before.before.before.before.label.ensures.1)
+returns-in-Set : tie.Need-returns-in-Set
+returns-in-Set c =
+    let e = sym (ap answer_of c.in-Set.is) ∙ c.label.ensures.0 in
+    ((ap number e, ap value e), c.label.ensures.1)
 
-same-length-4 : tie.Need-same-length-4
-same-length-4 c = search rules
+shape_of-out-in-Buffer : tie.Need-shape_of-out-in-Buffer
+shape_of-out-in-Buffer c = search rules
 
-returns-4 : tie.Need-returns-4
-returns-4 c =
-    let e = sym (ap answer_of c.enum-told2.given.1) ∙ c.before.before.before.before.label.ensures.0 in
-    ((ap number e, ap value e), c.before.before.before.before.label.ensures.1)
+returns-in-Buffer : tie.Need-returns-in-Buffer
+returns-in-Buffer c =
+    let e = sym (ap answer_of c.in-Buffer.is) ∙ c.label.ensures.0 in
+    ((ap number e, ap value e), c.label.ensures.1)
 
-pub assembly-label-spec : {M : Type 1} → statement M
-assembly-label-spec =
-    tie.close
-    (tie.spec
-    label-requires
-    enum-known-n
-    answered-requires
-    enum-known-fault
-    turned-back-requires
-    enum_told
-    enum-told-2
-    same_length
-    returns
-    same-length-2
-    returns-2
-    same-length-3
-    returns-3
-    same-length-4
-    returns-4)
+pub assembly_label_spec : {M : Type 1} → statement M
+assembly_label_spec = tie.close (tie.spec label-requires enum_known-n answered-requires enum_known-fault turned_back-requires enum_told-1 enum_told-in-Buffer shape_of-out-in-Length returns-in-Length shape_of-out-in-Record returns-in-Record shape_of-out-in-Set returns-in-Set shape_of-out-in-Buffer returns-in-Buffer)

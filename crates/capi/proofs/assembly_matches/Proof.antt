@@ -8,88 +8,67 @@ use Rattle.capi.proofs.assembly_matches.Tie as tie
 count-requires : tie.Need-count-requires
 count-requires c κs = search rules
 
-enum-known-n : tie.Need-enum-known-n
-enum-known-n c = search rules
+enum_known-n : tie.Need-enum_known-n
+enum_known-n c = search rules
 
 answered-requires : tie.Need-answered-requires
 answered-requires c κs = search rules
 
-enum-known-fault : tie.Need-enum-known-fault
-enum-known-fault c = search rules
+enum_known-fault : tie.Need-enum_known-fault
+enum_known-fault c = search rules
 
-turned-back-requires : tie.Need-turned-back-requires
-turned-back-requires c κs = search rules
+turned_back-requires : tie.Need-turned_back-requires
+turned_back-requires c κs = search rules
 
-enum-known-k : tie.Need-enum-known-k
-enum-known-k c = search rules
+enum_known-k : tie.Need-enum_known-k
+enum_known-k c = search rules
 
-enum-known-n-2 : tie.Need-enum-known-n-2
-enum-known-n-2 c = search rules
+enum_known-n-in-Pairs-1 : tie.Need-enum_known-n-in-Pairs-1
+enum_known-n-in-Pairs-1 c = search rules
 
-same_length : tie.Need-same-length
-same_length c = search rules
+shape_of-parts-in-Count : tie.Need-shape_of-parts-in-Count
+shape_of-parts-in-Count c = search rules
 
-same-length-2 : tie.Need-same-length-2
-same-length-2 c = search rules
+shape_of-pairs-in-Count : tie.Need-shape_of-pairs-in-Count
+shape_of-pairs-in-Count c = search rules
 
-returns : tie.Need-returns
-returns c =
-    let e = sym (ap answer_of c.before.before.n.given.1) ∙ c.before.before.before.before.before.before.before.before.count.ensures.0 in
-    ((c.answered.ensures.0 ∙ ap number e, c.answered.ensures.1 ∙ ap value e), c.before.before.before.before.before.before.before.before.count.ensures.1)
+returns-in-Count : tie.Need-returns-in-Count
+returns-in-Count c =
+    let e = sym (ap answer_of c.in-Count.is) ∙ c.count.ensures.0 in
+    ((c.answered.ensures.0 ∙ ap number e, c.answered.ensures.1 ∙ ap value e), c.count.ensures.1)
 
-same-length-3 : tie.Need-same-length-3
-same-length-3 c = search rules
+shape_of-parts-in-Record : tie.Need-shape_of-parts-in-Record
+shape_of-parts-in-Record c = search rules
 
-same-length-4 : tie.Need-same-length-4
-same-length-4 c = search rules
+shape_of-pairs-in-Record : tie.Need-shape_of-pairs-in-Record
+shape_of-pairs-in-Record c = search rules
 
-returns-2 : tie.Need-returns-2
-returns-2 c =
-    let e = sym (ap answer_of c.before.before.fault.given.1) ∙ c.before.before.before.before.before.before.before.before.count.ensures.0 in
-    ((c.turned_back_lem.ensures.0 ∙ ap number e, c.turned_back_lem.ensures.1 ∙ ap value e), c.before.before.before.before.before.before.before.before.count.ensures.1)
+returns-in-Record : tie.Need-returns-in-Record
+returns-in-Record c =
+    let e = sym (ap answer_of c.in-Record.is) ∙ c.count.ensures.0 in
+    ((c.turned_back.ensures.0 ∙ ap number e, c.turned_back.ensures.1 ∙ ap value e), c.count.ensures.1)
 
-same-length-5 : tie.Need-same-length-5
-same-length-5 c = search rules
+shape_of-parts-in-Parts : tie.Need-shape_of-parts-in-Parts
+shape_of-parts-in-Parts c = search rules
 
-same-length-6 : tie.Need-same-length-6
-same-length-6 c = search rules
+shape_of-pairs-in-Parts : tie.Need-shape_of-pairs-in-Parts
+shape_of-pairs-in-Parts c = search rules
 
-returns-3 : tie.Need-returns-3
-returns-3 c =
-    let e = sym (ap answer_of c.before.k.given.1) ∙ c.before.before.before.before.before.before.before.count.ensures.0 in
-    ((ap number e, ap value e), c.before.before.before.before.before.before.before.count.ensures.1)
+returns-in-Parts : tie.Need-returns-in-Parts
+returns-in-Parts c =
+    let e = sym (ap answer_of c.in-Parts.is) ∙ c.count.ensures.0 in
+    ((ap number e, ap value e), c.count.ensures.1)
 
-same-length-7 : tie.Need-same-length-7
-same-length-7 c = search rules
+shape_of-parts-in-Pairs : tie.Need-shape_of-parts-in-Pairs
+shape_of-parts-in-Pairs c = search rules
 
-same-length-8 : tie.Need-same-length-8
-same-length-8 c = search rules
+shape_of-pairs-in-Pairs : tie.Need-shape_of-pairs-in-Pairs
+shape_of-pairs-in-Pairs c = search rules
 
-returns-4 : tie.Need-returns-4
-returns-4 c =
-    let e = sym (ap answer_of c.before.n2.given.1) ∙ c.before.before.before.before.before.before.before.count.ensures.0 in
-    ((ap number e, ap value e), c.before.before.before.before.before.before.before.count.ensures.1)
+returns-in-Pairs : tie.Need-returns-in-Pairs
+returns-in-Pairs c =
+    let e = sym (ap answer_of c.in-Pairs.is) ∙ c.count.ensures.0 in
+    ((ap number e, ap value e), c.count.ensures.1)
 
-pub assembly-matches-spec : {M : Type 1} → statement M
-assembly-matches-spec =
-    tie.close
-    (tie.spec
-    count-requires
-    enum-known-n
-    answered-requires
-    enum-known-fault
-    turned-back-requires
-    enum-known-k
-    enum-known-n-2
-    same_length
-    same-length-2
-    returns
-    same-length-3
-    same-length-4
-    returns-2
-    same-length-5
-    same-length-6
-    returns-3
-    same-length-7
-    same-length-8
-    returns-4)
+pub assembly_matches_spec : {M : Type 1} → statement M
+assembly_matches_spec = tie.close (tie.spec count-requires enum_known-n answered-requires enum_known-fault turned_back-requires enum_known-k enum_known-n-in-Pairs-1 shape_of-parts-in-Count shape_of-pairs-in-Count returns-in-Count shape_of-parts-in-Record shape_of-pairs-in-Record returns-in-Record shape_of-parts-in-Parts shape_of-pairs-in-Parts returns-in-Parts shape_of-parts-in-Pairs shape_of-pairs-in-Pairs returns-in-Pairs)

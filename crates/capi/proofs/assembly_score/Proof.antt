@@ -6,49 +6,39 @@ use Rattle.capi.proofs.Replying.{replies, demand_told}
 use Rattle.capi.proofs.assembly_score.Statement.{statement}
 use Rattle.capi.proofs.assembly_score.Tie as tie
 
-score-requires : tie.Need-score-requires
-score-requires c κs = search rules
+score-scored-requires : tie.Need-score-scored-requires
+score-scored-requires c κs = search rules
 
 replied-requires : tie.Need-replied-requires
 replied-requires c κs = search rules
 
-same_length : tie.Need-same-length
-same_length c = search rules
+shape_of-trail : tie.Need-shape_of-trail
+shape_of-trail c = search rules
 
-same-length-2 : tie.Need-same-length-2
-same-length-2 c = search rules
+shape_of-parts : tie.Need-shape_of-parts
+shape_of-parts c = search rules
 
-same-length-3 : tie.Need-same-length-3
-same-length-3 c = search rules
+shape_of-pairs : tie.Need-shape_of-pairs
+shape_of-pairs c = search rules
 
-same-length-4 : tie.Need-same-length-4
-same-length-4 c = search rules
+shape_of-entries : tie.Need-shape_of-entries
+shape_of-entries c = search rules
 
-same-length-5 : tie.Need-same-length-5
-same-length-5 c = search rules
+shape_of-desk : tie.Need-shape_of-desk
+shape_of-desk c = search rules
 
 returns : tie.Need-returns
 returns c =
-    let a = c.before.before.before.before.before.before.before.before.before.before.before.before.before.before.before.before.before.before.before.before.before.before.before.args in
-    let s = c.before.before.before.before.before.before.before.before.before.before.before.score in
+    let a = c.args in
+    let s = c.score-scored in
     let w = s.ensures in
     let setting = asked a.bounds a.memo a.budget in
     let room = room_of (loan a.trail.now a.parts.now a.pairs.now a.entries.now a.desk.now) in
     rw c.replied.ensures (record {
-      answer = replies a.bytes.now setting room _ s.result w.answer s.auto.1.1.0;
+      answer = replies a.bytes.now setting room _ s.result w.answer s.auto.trail;
       leaves = w.leaves;
       demand3 = demand_told a.bytes.now setting room _ s.result w.demand3;
     })
 
-pub assembly-score-spec : {M : Type 1} → statement M
-assembly-score-spec =
-    tie.close
-    (tie.spec
-    score-requires
-    replied-requires
-    same_length
-    same-length-2
-    same-length-3
-    same-length-4
-    same-length-5
-    returns)
+pub assembly_score_spec : {M : Type 1} → statement M
+assembly_score_spec = tie.close (tie.spec score-scored-requires replied-requires shape_of-trail shape_of-parts shape_of-pairs shape_of-entries shape_of-desk returns)

@@ -5,11 +5,11 @@ use Rattle.capi.specs.Reply.{turned, reply_of}
 use Rattle.capi.proofs.replied.Statement.{statement}
 use Rattle.capi.proofs.replied.Tie as tie
 
-enum-known-scored : tie.Need-enum-known-scored
-enum-known-scored c = search rules
+enum_known-scored : tie.Need-enum_known-scored
+enum_known-scored c = search rules
 
-enum-known-scored-2 : tie.Need-enum-known-scored-2
-enum-known-scored-2 c = search rules
+enum_known-scored-in-Record-1 : tie.Need-enum_known-scored-in-Record-1
+enum_known-scored-in-Record-1 c = search rules
 
 number-requires : tie.Need-number-requires
 number-requires c κs = search rules
@@ -20,92 +20,65 @@ place-requires c κs = search rules
 row-requires : tie.Need-row-requires
 row-requires c κs = search rules
 
-enum_told : tie.Need-enum-told
-enum_told c = search rules
+enum_told-1 : tie.Need-enum_told-1
+enum_told-1 c = search rules
 
-row-requires-2 : tie.Need-row-requires-2
-row-requires-2 c κs = search rules
+row-requires-in-Setting : tie.Need-row-requires-in-Setting
+row-requires-in-Setting c κs = search rules
 
-enum-told-2 : tie.Need-enum-told-2
-enum-told-2 c = search rules
+enum_told-in-Lent : tie.Need-enum_told-in-Lent
+enum_told-in-Lent c = search rules
 
-row-requires-3 : tie.Need-row-requires-3
-row-requires-3 c κs = search rules
+row-requires-in-Lent : tie.Need-row-requires-in-Lent
+row-requires-in-Lent c κs = search rules
 
-enum-known-scored-3 : tie.Need-enum-known-scored-3
-enum-known-scored-3 c = search rules
+enum_known-scored-in-Parts-1 : tie.Need-enum_known-scored-in-Parts-1
+enum_known-scored-in-Parts-1 c = search rules
 
-row-requires-4 : tie.Need-row-requires-4
-row-requires-4 c κs = search rules
+row-requires-in-Parts : tie.Need-row-requires-in-Parts
+row-requires-in-Parts c κs = search rules
 
-enum-known-scored-4 : tie.Need-enum-known-scored-4
-enum-known-scored-4 c = search rules
+enum_known-scored-in-Pairs-1 : tie.Need-enum_known-scored-in-Pairs-1
+enum_known-scored-in-Pairs-1 c = search rules
 
-row-requires-5 : tie.Need-row-requires-5
-row-requires-5 c κs = search rules
+row-requires-in-Pairs : tie.Need-row-requires-in-Pairs
+row-requires-in-Pairs c κs = search rules
 
-enum-known-scored-5 : tie.Need-enum-known-scored-5
-enum-known-scored-5 c = search rules
+enum_known-scored-in-Budget-1 : tie.Need-enum_known-scored-in-Budget-1
+enum_known-scored-in-Budget-1 c = search rules
 
-row-requires-6 : tie.Need-row-requires-6
-row-requires-6 c κs = search rules
+row-requires-in-Budget : tie.Need-row-requires-in-Budget
+row-requires-in-Budget c κs = search rules
 
-enum-known-scored-6 : tie.Need-enum-known-scored-6
-enum-known-scored-6 c = search rules
+enum_known-scored-in-Memo-1 : tie.Need-enum_known-scored-in-Memo-1
+enum_known-scored-in-Memo-1 c = search rules
 
-row-requires-7 : tie.Need-row-requires-7
-row-requires-7 c κs = search rules
+row-requires-in-Memo : tie.Need-row-requires-in-Memo
+row-requires-in-Memo c κs = search rules
 
-returns : tie.Need-returns
-returns c = sym (ap reply_of c.before.scored.given.1)
+returns-in-Score : tie.Need-returns-in-Score
+returns-in-Score c = sym (ap reply_of c.in-Score.is)
 
-returns-2 : tie.Need-returns-2
-returns-2 c = c.row.ensures ∙ ap₂ turned c.before.before.number.ensures c.before.place.ensures ∙ sym (ap reply_of c.before.before.before.before.scored2.given.1)
+returns-in-Record : tie.Need-returns-in-Record
+returns-in-Record c = c.row.ensures ∙ ap₂ turned c.number.ensures c.place.ensures ∙ sym (ap reply_of c.in-Record.is)
 
-returns-3 : tie.Need-returns-3
-returns-3 c = c.row2.ensures ∙ sym (ap reply_of c.before.enum_told.given.1)
+returns-in-Setting : tie.Need-returns-in-Setting
+returns-in-Setting c = c.row-in-Setting.ensures ∙ sym (ap reply_of c.in-Setting.is)
 
-returns-4 : tie.Need-returns-4
-returns-4 c = c.row3.ensures ∙ sym (ap reply_of c.before.enum-told2.given.1)
+returns-in-Lent : tie.Need-returns-in-Lent
+returns-in-Lent c = c.row-in-Lent.ensures ∙ sym (ap reply_of c.in-Lent.is)
 
-returns-5 : tie.Need-returns-5
-returns-5 c = c.row4.ensures ∙ sym (ap reply_of c.before.before.scored3.given.1)
+returns-in-Parts : tie.Need-returns-in-Parts
+returns-in-Parts c = c.row-in-Parts.ensures ∙ sym (ap reply_of c.in-Parts.is)
 
-returns-6 : tie.Need-returns-6
-returns-6 c = c.row5.ensures ∙ sym (ap reply_of c.before.before.scored4.given.1)
+returns-in-Pairs : tie.Need-returns-in-Pairs
+returns-in-Pairs c = c.row-in-Pairs.ensures ∙ sym (ap reply_of c.in-Pairs.is)
 
-returns-7 : tie.Need-returns-7
-returns-7 c = c.row6.ensures ∙ sym (ap reply_of c.before.before.scored5.given.1)
+returns-in-Budget : tie.Need-returns-in-Budget
+returns-in-Budget c = c.row-in-Budget.ensures ∙ sym (ap reply_of c.in-Budget.is)
 
-returns-8 : tie.Need-returns-8
-returns-8 c = c.row7.ensures ∙ sym (ap reply_of c.before.before.scored6.given.1)
+returns-in-Memo : tie.Need-returns-in-Memo
+returns-in-Memo c = c.row-in-Memo.ensures ∙ sym (ap reply_of c.in-Memo.is)
 
-pub replied-spec : {M : Type 1} → statement M
-replied-spec =
-    tie.close
-    (tie.spec
-    enum-known-scored
-    enum-known-scored-2
-    number-requires
-    place-requires
-    row-requires
-    enum_told
-    row-requires-2
-    enum-told-2
-    row-requires-3
-    enum-known-scored-3
-    row-requires-4
-    enum-known-scored-4
-    row-requires-5
-    enum-known-scored-5
-    row-requires-6
-    enum-known-scored-6
-    row-requires-7
-    returns
-    returns-2
-    returns-3
-    returns-4
-    returns-5
-    returns-6
-    returns-7
-    returns-8)
+pub replied_spec : {M : Type 1} → statement M
+replied_spec = tie.close (tie.spec enum_known-scored enum_known-scored-in-Record-1 number-requires place-requires row-requires enum_told-1 row-requires-in-Setting enum_told-in-Lent row-requires-in-Lent enum_known-scored-in-Parts-1 row-requires-in-Parts enum_known-scored-in-Pairs-1 row-requires-in-Pairs enum_known-scored-in-Budget-1 row-requires-in-Budget enum_known-scored-in-Memo-1 row-requires-in-Memo returns-in-Score returns-in-Record returns-in-Setting returns-in-Lent returns-in-Parts returns-in-Pairs returns-in-Budget returns-in-Memo)
