@@ -3,32 +3,45 @@ use crate::hex::Bytes;
 use crate::words::Word;
 use crate::{Answer, hex, output, words};
 use molecule::Verdict;
+use std::io;
 
 // Answers the line, whose first word is the command.
-pub fn answer(line: &[u8], command: Word, out: &mut [u8; 4096], at: usize) -> Answer {
+pub fn answer(
+    rt: &impl Print,
+    line: &[u8],
+    command: Word,
+    out: &mut [u8; 4096],
+    at: usize,
+) -> io::Result<Answer> {
     let word = words::next_word(line, command);
     if !words::is_last(line, word) {
-        return Answer::Unreadable;
+        return Ok(Answer::Unreadable);
     }
     let mut record = [0u8; 2048];
     let bytes = hex::record_bytes(words::text(line, word), &mut record);
     match bytes {
         Bytes::Count(n) => {
             let verdict = molecule::check(&record[0..n]);
-            Answer::Put(put_verdict(out, at, verdict))
+            let end = put_verdict(rt, out, at, verdict)?;
+            Ok(Answer::Put(end))
         }
-        Bytes::Unreadable => Answer::Unreadable,
+        Bytes::Unreadable => Ok(Answer::Unreadable),
     }
 }
 
 // Puts `accepted` or `refused NUMBER PLACE`.
-fn put_verdict(out: &mut [u8; 4096], at: usize, verdict: Verdict) -> usize {
+fn put_verdict(
+    rt: &impl Print,
+    out: &mut [u8; 4096],
+    at: usize,
+    verdict: Verdict,
+) -> io::Result<usize> {
     match verdict {
-        Verdict::Accepted => output::put_text(out, at, b"accepted"),
+        Verdict::Accepted => output::put_text(rt, out, at, b"accepted"),
         Verdict::Refused(fault) => {
             let number = molecule::number(fault) as u64;
             let place = molecule::place(fault);
-            output::put_refused(out, at, number, place)
+            output::put_refused(rt, out, at, number, place)
         }
     }
 }

@@ -3,7 +3,7 @@ ghost use Rattle.std.specs.Prelude.{◌≡◌, ◌<◌};
 ghost use Rattle.lines.specs.Hex.{digit_of, Decoded, DecodedRecord};
 
 // What a word of digits is read as: so many bytes, or nothing.
-#[derive(Drop)]
+#[derive(Clone, Copy)]
 pub enum Bytes {
     Count(usize),
     Unreadable,

@@ -6,49 +6,63 @@ use crate::numbers::Number;
 use crate::words::Word;
 use crate::{Answer, hex, numbers, output, words};
 use canonize::Labelled;
+use std::io;
 
 // Answers the line, whose first word is the command.
-pub fn answer(line: &[u8], command: Word, out: &mut [u8; 4096], at: usize) -> Answer {
+pub fn answer(
+    rt: &impl Print,
+    line: &[u8],
+    command: Word,
+    out: &mut [u8; 4096],
+    at: usize,
+) -> io::Result<Answer> {
     let first = words::next_word(line, command);
     let second = words::next_word(line, first);
     let third = words::next_word(line, second);
     if !words::is_last(line, third) {
-        return Answer::Unreadable;
+        return Ok(Answer::Unreadable);
     }
     let Number::Value(set) = numbers::hex_number(words::text(line, second)) else {
-        return Answer::Unreadable;
+        return Ok(Answer::Unreadable);
     };
     let Number::Value(room) = numbers::decimal_number(words::text(line, third)) else {
-        return Answer::Unreadable;
+        return Ok(Answer::Unreadable);
     };
     if 1024 < room {
-        return Answer::Unreadable;
+        return Ok(Answer::Unreadable);
     }
     let mut record = [0u8; 2048];
     let Bytes::Count(n) = hex::record_bytes(words::text(line, first), &mut record) else {
-        return Answer::Unreadable;
+        return Ok(Answer::Unreadable);
     };
     let mut space = [0u8; 1024];
     let buffer = &mut space[0..room as usize];
     let labelled = canonize::label(&record[0..n], set, buffer);
-    Answer::Put(put_labelled(out, at, labelled, buffer))
+    let end = put_labelled(rt, out, at, labelled, buffer)?;
+    Ok(Answer::Put(end))
 }
 
 // Puts `label HEX` or `refused NUMBER PLACE`.
-fn put_labelled(out: &mut [u8; 4096], at: usize, labelled: Labelled, buffer: &[u8]) -> usize
+fn put_labelled(
+    rt: &impl Print,
+    out: &mut [u8; 4096],
+    at: usize,
+    labelled: Labelled,
+    buffer: &[u8],
+) -> io::Result<usize>
     requires { Inside buffer.now labelled }
 {
     match labelled {
         Labelled::Length(n) => {
-            let word = output::put_text(out, at, b"label ");
-            output::put_hex(out, word, &buffer[0..n])
+            let word = output::put_text(rt, out, at, b"label ")?;
+            output::put_hex(rt, out, word, &buffer[0..n])
         }
         Labelled::Record(fault) => {
             let number = molecule::number(fault) as u64;
             let place = molecule::place(fault);
-            output::put_refused(out, at, number, place)
+            output::put_refused(rt, out, at, number, place)
         }
-        Labelled::Set => output::put_refused(out, at, 13, 0),
-        Labelled::Buffer => output::put_refused(out, at, 14, 0),
+        Labelled::Set => output::put_refused(rt, out, at, 13, 0),
+        Labelled::Buffer => output::put_refused(rt, out, at, 14, 0),
     }
 }

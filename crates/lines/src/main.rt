@@ -1,7 +1,8 @@
 #![tactic(auto)]
 // Reads a question a line, and answers each on a line.
 use canonize::compare;
-use libc::STDIN_FILENO;
+use std::io;
+use std::io::Read;
 
 mod check_line;
 mod hex;
@@ -15,14 +16,14 @@ mod words;
 
 // What a command makes of its line. Put: it put an answer, and so many bytes are to be written. Unreadable: it put
 // nothing.
-#[derive(Drop)]
+#[derive(Clone, Copy)]
 pub enum Answer {
     Put(usize),
     Unreadable,
 }
 
 // The commands, by the first word.
-#[derive(Drop)]
+#[derive(Clone, Copy)]
 enum Command {
     Check,
     Label,
@@ -33,7 +34,7 @@ enum Command {
 
 // Where the program stands: the line's number, how many of its bytes have come (over 4096: it is too long), and how
 // many bytes of answers there are to write.
-#[derive(Drop)]
+#[derive(Clone, Copy)]
 struct State {
     number: u64,
     length: usize,
@@ -58,122 +59,164 @@ fn command_of(name: &[u8]) -> Command {
 }
 
 // Answers a line that the buffer holds, without its newline.
-fn answer_line(line: &[u8], out: &mut [u8; 4096], at: usize) -> Answer {
+fn answer_line(
+    rt: &impl Print,
+    line: &[u8],
+    out: &mut [u8; 4096],
+    at: usize,
+) -> io::Result<Answer> {
     let word = words::word_at(line, 0);
     match command_of(words::text(line, word)) {
-        Command::Check => check_line::answer(line, word, out, at),
-        Command::Label => label_line::answer(line, word, out, at),
-        Command::Matches => matches_line::answer(line, word, out, at),
-        Command::Score => score_line::answer(line, word, out, at),
-        Command::Unknown => Answer::Unreadable,
+        Command::Check => check_line::answer(rt, line, word, out, at),
+        Command::Label => label_line::answer(rt, line, word, out, at),
+        Command::Matches => matches_line::answer(rt, line, word, out, at),
+        Command::Score => score_line::answer(rt, line, word, out, at),
+        Command::Unknown => Ok(Answer::Unreadable),
     }
 }
 
 // Puts `unreadable NUMBER`.
-fn put_unreadable(out: &mut [u8; 4096], at: usize, number: u64) -> usize {
-    let word = output::put_text(out, at, b"unreadable ");
-    output::put_decimal(out, word, number)
+fn put_unreadable(
+    rt: &impl Print,
+    out: &mut [u8; 4096],
+    at: usize,
+    number: u64,
+) -> io::Result<usize> {
+    let word = output::put_text(rt, out, at, b"unreadable ")?;
+    output::put_decimal(rt, out, word, number)
 }
 
 // Answers the line that has ended.
-fn answer_ended(state: State, line: &[u8; 4096], out: &mut [u8; 4096]) -> Answer {
+fn answer_ended(
+    rt: &impl Print,
+    state: State,
+    line: &[u8; 4096],
+    out: &mut [u8; 4096],
+) -> io::Result<Answer> {
     let length = state.length;
     let at = state.put;
     if 4096 < length {
-        return Answer::Unreadable;
+        return Ok(Answer::Unreadable);
     }
     let bytes: &[u8] = line;
-    answer_line(&bytes[0..length], out, at)
+    answer_line(rt, &bytes[0..length], out, at)
 }
 
 // Puts the answer of the line that has ended, with its newline.
-fn put_answer(state: State, line: &[u8; 4096], out: &mut [u8; 4096]) -> usize {
-    match answer_ended(state, line, out) {
-        Answer::Put(end) => output::put(out, end, b'\n'),
+fn put_answer(
+    rt: &impl Print,
+    state: State,
+    line: &[u8; 4096],
+    out: &mut [u8; 4096],
+) -> io::Result<usize> {
+    match answer_ended(rt, state, line, out)? {
+        Answer::Put(end) => output::put(rt, out, end, b'\n'),
         Answer::Unreadable => {
-            let end = put_unreadable(out, state.put, state.number);
-            output::put(out, end, b'\n')
+            let end = put_unreadable(rt, out, state.put, state.number)?;
+            output::put(rt, out, end, b'\n')
         }
     }
 }
 
 // Takes one byte in: a newline ends the line.
-fn take(b: u8, state: State, line: &mut [u8; 4096], out: &mut [u8; 4096]) -> State {
+fn take(
+    rt: &impl Print,
+    b: u8,
+    state: State,
+    line: &mut [u8; 4096],
+    out: &mut [u8; 4096],
+) -> io::Result<State> {
     let length = state.length;
     if b == b'\n' {
-        let put = put_answer(state, line, out);
-        return State {
-            number: std::num::wrapping_add_u64(state.number, 1),
+        let put = put_answer(rt, state, line, out)?;
+        return Ok(State {
+            number: state.number.wrapping_add(1),
             length: 0,
             put,
-        };
+        });
     }
     if length < 4096 {
         line[length] = b;
-        return State {
+        return Ok(State {
             number: state.number,
             length: length + 1,
             put: state.put,
-        };
+        });
     }
-    State {
+    Ok(State {
         number: state.number,
         length: 4097,
         put: state.put,
-    }
+    })
 }
 
 // Takes a chunk in.
-fn take_all(chunk: &[u8], before: State, line: &mut [u8; 4096], out: &mut [u8; 4096]) -> State {
+fn take_all(
+    rt: &impl Print,
+    chunk: &[u8],
+    before: State,
+    line: &mut [u8; 4096],
+    out: &mut [u8; 4096],
+) -> io::Result<State> {
     let mut state = before;
     let mut i = 0;
     while i < chunk.len() {
-        state = take(chunk[i], state, line, out);
+        state = take(rt, chunk[i], state, line, out)?;
         i += 1;
     }
-    state
+    Ok(state)
 }
 
 // Takes a chunk in, and writes the answers.
-fn answer_chunk(chunk: &[u8], before: State, line: &mut [u8; 4096], out: &mut [u8; 4096]) -> State {
-    let state = take_all(chunk, before, line, out);
-    output::flush(out, state.put);
-    State {
+fn answer_chunk(
+    rt: &impl Print,
+    chunk: &[u8],
+    before: State,
+    line: &mut [u8; 4096],
+    out: &mut [u8; 4096],
+) -> io::Result<State> {
+    let state = take_all(rt, chunk, before, line, out)?;
+    output::flush(rt, out, state.put)?;
+    Ok(State {
         number: state.number,
         length: state.length,
         put: 0,
-    }
+    })
 }
 
-// Reads chunk by chunk to the end of the input. The count of chunks falls, from a number that no run uses up.
-fn answer_all(chunk: &mut [u8; 65536], line: &mut [u8; 4096], out: &mut [u8; 4096]) -> State {
+// Reads chunk by chunk to the end of the input.
+fn answer_all(
+    rt: &(impl Print + Input),
+    chunk: &mut [u8; 65536],
+    line: &mut [u8; 4096],
+    out: &mut [u8; 4096],
+) -> io::Result<State> {
     let mut state = State {
         number: 1,
         length: 0,
         put: 0,
     };
-    let mut left = u64::MAX;
-    while 0 < left {
-        let got = libc::read(STDIN_FILENO, chunk);
-        if got <= 0 {
-            return state;
+    let mut reader = rt.reader();
+    for _ in 0..u64::MAX {
+        let n = reader.read(chunk)?;
+        if n == 0 {
+            return Ok(state);
         }
-        let n = io::count(got, chunk);
         let bytes: &[u8] = chunk;
-        state = answer_chunk(&bytes[0..n], state, line, out);
-        left -= 1;
+        state = answer_chunk(rt, &bytes[0..n], state, line, out)?;
     }
-    state
+    Ok(state)
 }
 
-fn main() {
-    let mut chunk = io::large_buffer();
-    let mut line = io::buffer();
-    let mut out = io::buffer();
-    let state = answer_all(&mut chunk, &mut line, &mut out);
+fn main(rt: HostRuntime) -> io::Result<()> {
+    let mut chunk = [0u8; 65536];
+    let mut line = [0u8; 4096];
+    let mut out = [0u8; 4096];
+    let state = answer_all(&rt, &mut chunk, &mut line, &mut out)?;
     // A last line with no newline.
     if 0 < state.length {
-        let put = put_answer(state, &line, &mut out);
-        output::flush(&out, put);
+        let put = put_answer(&rt, state, &line, &mut out)?;
+        output::flush(&rt, &out, put)?;
     }
+    Ok(())
 }

@@ -7,28 +7,36 @@ use crate::hex::Bytes;
 use crate::numbers::Number;
 use crate::words::Word;
 use crate::{Answer, hex, noise, numbers, output, words};
+use std::io;
 use tabulate::count;
 use tabulate::count::Counted;
 
 // The lengths of parts and pairs in words, or nothing.
-#[derive(Drop)]
+#[derive(Clone, Copy)]
 pub enum Lengths {
     Words(usize, usize),
     Unreadable,
 }
 
 // Answers the line, whose first word is the command.
-pub fn answer(line: &[u8], command: Word, out: &mut [u8; 4096], at: usize) -> Answer {
+pub fn answer(
+    rt: &impl Print,
+    line: &[u8],
+    command: Word,
+    out: &mut [u8; 4096],
+    at: usize,
+) -> io::Result<Answer> {
     let first = words::next_word(line, command);
     let Lengths::Words(parts, pairs) = table_lengths(line, first) else {
-        return Answer::Unreadable;
+        return Ok(Answer::Unreadable);
     };
     let mut record = [0u8; 2048];
     let Bytes::Count(n) = hex::record_bytes(words::text(line, first), &mut record) else {
-        return Answer::Unreadable;
+        return Ok(Answer::Unreadable);
     };
     let counted = count_with(&record[0..n], parts, pairs);
-    Answer::Put(put_counted(out, at, counted))
+    let end = put_counted(rt, out, at, counted)?;
+    Ok(Answer::Put(end))
 }
 
 // The lengths that stand after the record's word: both, or none, and then each is 65536.
@@ -72,18 +80,23 @@ fn count_with(bytes: &[u8], parts: usize, pairs: usize) -> Counted
 }
 
 // Puts `matches NUMBER` or `refused NUMBER PLACE`.
-fn put_counted(out: &mut [u8; 4096], at: usize, counted: Counted) -> usize {
+fn put_counted(
+    rt: &impl Print,
+    out: &mut [u8; 4096],
+    at: usize,
+    counted: Counted,
+) -> io::Result<usize> {
     match counted {
         Counted::Count(n) => {
-            let word = output::put_text(out, at, b"matches ");
-            output::put_decimal(out, word, n)
+            let word = output::put_text(rt, out, at, b"matches ")?;
+            output::put_decimal(rt, out, word, n)
         }
         Counted::Record(fault) => {
             let number = molecule::number(fault) as u64;
             let place = molecule::place(fault);
-            output::put_refused(out, at, number, place)
+            output::put_refused(rt, out, at, number, place)
         }
-        Counted::Parts(size) => output::put_refused(out, at, 9, size),
-        Counted::Pairs(n) => output::put_refused(out, at, 10, n),
+        Counted::Parts(size) => output::put_refused(rt, out, at, 9, size),
+        Counted::Pairs(n) => output::put_refused(rt, out, at, 10, n),
     }
 }

@@ -6,7 +6,7 @@ ghost use Rattle.lines.specs.Lengths.{AtMost};
 use crate::hex;
 
 // What a word is read as: a number, or nothing.
-#[derive(Drop)]
+#[derive(Clone, Copy)]
 pub enum Number {
     Value(u64),
     Unreadable,

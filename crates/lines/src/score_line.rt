@@ -8,9 +8,10 @@ use crate::words::Word;
 use crate::{Answer, hex, noise, numbers, output, words};
 use assembly::answer::{Score, Scored};
 use assembly::{Setting, score};
+use std::io;
 
 // How many elements the trail and each table have.
-#[derive(Drop)]
+#[derive(Clone, Copy)]
 pub struct Lent {
     pub trail: usize,
     pub parts: usize,
@@ -20,21 +21,27 @@ pub struct Lent {
 }
 
 // The five lengths, or nothing.
-#[derive(Drop)]
+#[derive(Clone, Copy)]
 pub enum Room {
     Lengths(Lent),
     Unreadable,
 }
 
 // A setting, or nothing.
-#[derive(Drop)]
+#[derive(Clone, Copy)]
 pub enum Asked {
     With(Setting),
     Unreadable,
 }
 
 // Answers the line, whose first word is the command.
-pub fn answer(line: &[u8], command: Word, out: &mut [u8; 4096], at: usize) -> Answer {
+pub fn answer(
+    rt: &impl Print,
+    line: &[u8],
+    command: Word,
+    out: &mut [u8; 4096],
+    at: usize,
+) -> io::Result<Answer> {
     let first = words::next_word(line, command);
     let bounds = words::next_word(line, first);
     let memo = words::next_word(line, bounds);
@@ -44,16 +51,17 @@ pub fn answer(line: &[u8], command: Word, out: &mut [u8; 4096], at: usize) -> An
         words::text(line, memo),
         words::text(line, budget),
     ) else {
-        return Answer::Unreadable;
+        return Ok(Answer::Unreadable);
     };
     let Room::Lengths(lent) = lengths(line, budget) else {
-        return Answer::Unreadable;
+        return Ok(Answer::Unreadable);
     };
     let mut record = [0u8; 2048];
     let Bytes::Count(n) = hex::record_bytes(words::text(line, first), &mut record) else {
-        return Answer::Unreadable;
+        return Ok(Answer::Unreadable);
     };
-    Answer::Put(put_score(&record[0..n], setting, lent, out, at))
+    let end = put_score(rt, &record[0..n], setting, lent, out, at)?;
+    Ok(Answer::Put(end))
 }
 
 // Each of the three a number in decimal below 2 to the power 32.
@@ -138,7 +146,14 @@ fn score_over(
 }
 
 // Scores with a trail and tables of so many elements, and puts the answer.
-fn put_score(bytes: &[u8], setting: Setting, lent: Lent, out: &mut [u8; 4096], at: usize) -> usize
+fn put_score(
+    rt: &impl Print,
+    bytes: &[u8],
+    setting: Setting,
+    lent: Lent,
+    out: &mut [u8; 4096],
+    at: usize,
+) -> io::Result<usize>
     requires { FitsSpace lent }
 {
     let mut space = [0u32; 40];
@@ -161,42 +176,54 @@ fn put_score(bytes: &[u8], setting: Setting, lent: Lent, out: &mut [u8; 4096], a
         &mut third[0..memo],
         &mut fourth[0..desk],
     );
-    put_scored(out, at, scored, trail)
+    put_scored(rt, out, at, scored, trail)
 }
 
 // Puts `scored INDEX MATCHES STATES K T0 T1 ..` or `refused NUMBER PLACE`.
-fn put_scored(out: &mut [u8; 4096], at: usize, scored: Scored, trail: &[u32]) -> usize {
+fn put_scored(
+    rt: &impl Print,
+    out: &mut [u8; 4096],
+    at: usize,
+    scored: Scored,
+    trail: &[u32],
+) -> io::Result<usize> {
     match scored {
-        Scored::Score(s) => put_held(out, at, s, trail),
+        Scored::Score(s) => put_held(rt, out, at, s, trail),
         Scored::Record(fault) => {
             let number = molecule::number(fault) as u64;
             let place = molecule::place(fault);
-            output::put_refused(out, at, number, place)
+            output::put_refused(rt, out, at, number, place)
         }
-        Scored::Setting => output::put_refused(out, at, 7, 0),
-        Scored::Lent => output::put_refused(out, at, 8, 0),
-        Scored::Parts(size) => output::put_refused(out, at, 9, size),
-        Scored::Pairs(n) => output::put_refused(out, at, 10, n),
-        Scored::Budget(n) => output::put_refused(out, at, 11, n),
-        Scored::Memo(n) => output::put_refused(out, at, 12, n),
+        Scored::Setting => output::put_refused(rt, out, at, 7, 0),
+        Scored::Lent => output::put_refused(rt, out, at, 8, 0),
+        Scored::Parts(size) => output::put_refused(rt, out, at, 9, size),
+        Scored::Pairs(n) => output::put_refused(rt, out, at, 10, n),
+        Scored::Budget(n) => output::put_refused(rt, out, at, 11, n),
+        Scored::Memo(n) => output::put_refused(rt, out, at, 12, n),
     }
 }
 
 // Puts what a score holds, and its removals: the first numbers of the trail.
-fn put_held(out: &mut [u8; 4096], at: usize, s: Score, trail: &[u32]) -> usize {
-    let word = output::put_text(out, at, b"scored");
-    let index = output::put_short(out, word, s.index);
-    let matches = output::put_number(out, index, s.matches);
-    let states = output::put_short(out, matches, s.states);
+fn put_held(
+    rt: &impl Print,
+    out: &mut [u8; 4096],
+    at: usize,
+    s: Score,
+    trail: &[u32],
+) -> io::Result<usize> {
+    let word = output::put_text(rt, out, at, b"scored")?;
+    let index = output::put_short(rt, out, word, s.index)?;
+    let matches = output::put_number(rt, out, index, s.matches)?;
+    let states = output::put_short(rt, out, matches, s.states)?;
     let k = s.length as usize;
-    let mut end = output::put_short(out, states, s.length);
+    let mut end = output::put_short(rt, out, states, s.length)?;
     let mut i = 0;
     while i < trail.len() {
         if k <= i {
-            return end;
+            return Ok(end);
         }
-        end = output::put_short(out, end, trail[i]);
+        end = output::put_short(rt, out, end, trail[i])?;
         i += 1;
     }
-    end
+    Ok(end)
 }
