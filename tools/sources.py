@@ -1,8 +1,7 @@
 """What tools/seams and tools/closure read off the sources: crates, modules, and what a file brings in by its use lines.
 
-A module of crate C is named Rattle·C.specs.M or Rattle·C.proofs.M from other crates, and Rattle·C·specs.specs.M or
-Rattle·C·proofs.proofs.M inside C; both are the file crates/C/specs/M.antt or crates/C/proofs/M.antt. Modules below
-specs.declared are the types that the code declares.
+A module of crate C is named Rattle.C.specs.M or Rattle.C.proofs.M, inside C too; it is the file crates/C/specs/M.antt or
+crates/C/proofs/M.antt. Modules below specs.declared are the types that the code declares.
 """
 import functools
 import pathlib
@@ -11,10 +10,12 @@ from typing import Iterator, NamedTuple, Optional
 
 ROOT = pathlib.Path(__file__).resolve().parent.parent
 CRATES = ROOT / "crates"
+# The folders of a crate that hold sources; a check writes copies of them into its out/.
+PARTS = ("src", "specs", "proofs")
 
-MODULE = re.compile(r"Rattle·(\w+)(?:·\w+)?(?:\.(.+))?")
+MODULE = re.compile(r"Rattle\.(\w+)(?:\.(.+))?")
 USE = re.compile(
-    r"^[ \t]*(?P<public>pub\s+)?(?:ghost\s+)?use\s+(?P<path>[^\s{};]+?)(?:\.\{(?P<items>[^}]*)\}|\s+as\s+(?P<known>[^\s;]+))?[ \t]*;?[ \t]*$",
+    r"^[ \t]*(?:unfoldable\s+)?(?P<public>pub\s+)?(?:ghost\s+)?use\s+(?P<path>[^\s{};]+?)(?:\.\{(?P<items>[^}]*)\}|\s+as\s+(?P<known>[^\s;]+))?[ \t]*;?[ \t]*$",
     re.MULTILINE,
 )
 

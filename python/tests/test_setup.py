@@ -18,22 +18,26 @@ TOP = Path(__file__).resolve().parents[2]
 ARCHIVE = TOP / "target" / "staticlib" / "libcapi.a"
 
 RT = """#!/bin/bash
+top=$(cd "$(dirname "$0")/.." && pwd)
+crate=${PWD##*/}
 case $1 in
-version) cat "$(dirname "$0")/version" ;;
-check)
-    echo $$ >pid
-    mkdir -p target/log target/bin
-    for crate in bitset molecule capi lines; do
-        echo failed >"target/log/$crate.res"
-        [ ! -e slow ] || sleep 0.7
-        [ ! -e broken ] || { echo "rt: $crate NOT PROVED"; exit 1; }
-        echo proved >"target/log/$crate.res"
-    done
-    printf '#!/bin/sh\\nexec cat\\n' >target/bin/lines
-    chmod +x target/bin/lines
-    echo run >>runs
+version) cat "$top/bin/version" ;;
+lib | run)
+    echo $$ >"$top/pid"
+    [ ! -e "$top/slow" ] || sleep 0.7
+    [ ! -e "$top/broken" ] || { echo "rt: $crate NOT PROVED"; exit 1; }
+    mkdir -p out
+    case $crate in
+    capi_c) cp ARCHIVE out/libcapi_c.a ;;
+    lines)
+        [ "$1" = run ] || exit 2
+        printf '#!/bin/sh\\nexec cat\\n' >out/lines
+        chmod +x out/lines
+        echo run >>"$top/runs"
+        ;;
+    esac
     ;;
-staticlib) mkdir -p target/staticlib && cp ARCHIVE target/staticlib/libcapi.a ;;
+*) exit 2 ;;
 esac
 """
 
@@ -53,10 +57,10 @@ def repository(tmp_path: Path) -> Path:
     for name in ("pazgelk", "tools/build", "tools/packages"):
         shutil.copy2(TOP / name, top / name)
     (top / "python" / "pazgelk").symlink_to(TOP / "python" / "pazgelk")
-    (top / "crates.txt").write_text("bitset:\nmolecule: bitset\nother: bitset\ncapi: molecule\nlines: molecule io\n")
-    for crate in ("bitset", "molecule", "other", "capi", "lines"):
+    (top / "crates.txt").write_text("bitset:\nmolecule: bitset\nother: bitset\nlines: molecule itoa\ncapi_c staticlib: molecule\n")
+    for crate in ("bitset", "molecule", "other", "lines", "capi_c"):
         (top / "crates" / crate / "src").mkdir(parents=True)
-        (top / "crates" / crate / "src" / "lib.rt").write_text(crate)
+        (top / "crates" / crate / "src" / ("main.rt" if crate == "lines" else "lib.rt")).write_text(crate)
     (top / "bin" / "version").write_text("pretended 1\n")
     tool(top / "bin" / "rt", RT.replace("ARCHIVE", str(ARCHIVE)))
     return top
@@ -88,7 +92,7 @@ def test_first_run_shows_each_crate(repository: Path) -> None:
     (repository / "slow").touch()
     first = run(repository, "tools/build")
     assert first.returncode == 0 and first.stdout == ""
-    for number, crate in enumerate(("bitset", "molecule", "capi", "lines"), 1):
+    for number, crate in enumerate(("bitset", "molecule", "lines", "capi_c"), 1):
         assert re.search(rf"crate {number} of 4 \({crate}\), 0:0\d\n", first.stderr), first.stderr
     assert (repository / "target" / "libpazgelk.so").exists()
     assert run(repository, "tools/build").stderr == "" and runs(repository) == 1
@@ -130,6 +134,8 @@ def test_stopped_by_the_user(repository: Path) -> None:
     with subprocess.Popen(command, stderr=subprocess.PIPE, text=True, env=environment(repository), start_new_session=True) as program:
         assert program.stderr is not None
         program.stderr.readline()
+        while not (repository / "pid").exists():
+            time.sleep(0.01)
         os.killpg(program.pid, signal.SIGINT)
         _, error = program.communicate(timeout=10)
     assert program.returncode == 130 and "Traceback" not in error and "stopped" in error
