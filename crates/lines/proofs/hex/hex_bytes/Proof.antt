@@ -18,7 +18,7 @@ values_more word bytes i v l old e =
     (λ k h. get_or-set_other bytes i k v 0 (λ q. omega arith) ∙ old k h)
     (get_or-set_same bytes i v 0 l ∙ e)
 
-abbrev invariant-loop : tie.invariant-loop
+abbrev invariant-loop : tie.invariant-loop-i
 invariant-loop word bytes₀ n i₀ bytes i =
     (i ≤ n)
     × (length word ≡ 2 * n)
@@ -28,122 +28,95 @@ invariant-loop word bytes₀ n i₀ bytes i =
     × ((k : ℕ) → k < i → digit_of (get_or word (2 * k + 1) 0) < 16)
     × ((k : ℕ) → k < i → get_or bytes k 0 ≡ byte_of word k)
 
-abbrev decreases-loop : tie.decreases-loop
+abbrev decreases-loop : tie.decreases-loop-i
 decreases-loop word bytes₀ n i₀ bytes i = n - i
 
-mul-if1 : tie.Need-overflow-mul-if1 invariant-loop decreases-loop
-mul-if1 c = search rules
+overflow_mul-n : tie.Need-overflow_mul-n invariant-loop decreases-loop
+overflow_mul-n c = search rules
 
-returns : tie.Need-returns invariant-loop decreases-loop
-returns c = search rules
+returns-then-word-n : tie.Need-returns-then-word-n invariant-loop decreases-loop
+returns-then-word-n c = search rules
 
-returns-2 : tie.Need-returns-2 invariant-loop decreases-loop
-returns-2 c = search rules
+returns-then-bytes-n : tie.Need-returns-then-bytes-n invariant-loop decreases-loop
+returns-then-bytes-n c = search rules
 
-loop-holds : tie.Need-loop-init invariant-loop decreases-loop
-loop-holds c = search rules
+loop-i-init : tie.Need-loop-i-init invariant-loop decreases-loop
+loop-i-init c = search rules
 
-mul-digit : tie.Need-overflow-mul-digit invariant-loop decreases-loop
-mul-digit c = search rules
+overflow_mul-i : tie.Need-overflow_mul-i invariant-loop decreases-loop
+overflow_mul-i c = search rules
 
-shared-slice-read-digit : tie.Need-shared-slice-read-digit invariant-loop decreases-loop
-shared-slice-read-digit c = search rules
+bounds-word-i : tie.Need-bounds-word-i invariant-loop decreases-loop
+bounds-word-i c = search rules
 
-digit-requires : tie.Need-digit-requires invariant-loop decreases-loop
-digit-requires c κs = search rules
+digit-high-requires : tie.Need-digit-high-requires invariant-loop decreases-loop
+digit-high-requires c κs = search rules
 
-mul-digit-2 : tie.Need-overflow-mul-digit-2 invariant-loop decreases-loop
-mul-digit-2 c = search rules
+overflow_mul-i-in-loop-i : tie.Need-overflow_mul-i-in-loop-i invariant-loop decreases-loop
+overflow_mul-i-in-loop-i c = search rules
 
-add-digit : tie.Need-overflow-add-digit invariant-loop decreases-loop
-add-digit c = search rules
+overflow_add-i : tie.Need-overflow_add-i invariant-loop decreases-loop
+overflow_add-i c = search rules
 
-shared-slice-read-digit-2 : tie.Need-shared-slice-read-digit-2 invariant-loop decreases-loop
-shared-slice-read-digit-2 c = search rules
+bounds-word-i-in-loop-i : tie.Need-bounds-word-i-in-loop-i invariant-loop decreases-loop
+bounds-word-i-in-loop-i c = search rules
 
-digit-requires-2 : tie.Need-digit-requires-2 invariant-loop decreases-loop
-digit-requires-2 c κs = search rules
+digit-low-requires : tie.Need-digit-low-requires invariant-loop decreases-loop
+digit-low-requires c κs = search rules
 
-same_length : tie.Need-same-length invariant-loop decreases-loop
-same_length c = search rules
+shape_of-bytes-then-high-ge16 : tie.Need-shape_of-bytes-then-high-ge16 invariant-loop decreases-loop
+shape_of-bytes-then-high-ge16 c = search rules
 
-returns-3 : tie.Need-returns-3 invariant-loop decreases-loop
-returns-3 c = λ n h d. omega (arith, d.high c.before.before.before.before.before.before.loop.i (omega (arith, d.pairs)), c.before.before.before.digit.ensures)
+returns-then-high-ge16 : tie.Need-returns-then-high-ge16 invariant-loop decreases-loop
+returns-then-high-ge16 c = λ n h d. omega (arith, d.high c.loop-i.i (omega (arith, d.pairs)), c.digit-high.ensures)
 
-same-length-2 : tie.Need-same-length-2 invariant-loop decreases-loop
-same-length-2 c = search rules
+shape_of-bytes-then-low-ge16 : tie.Need-shape_of-bytes-then-low-ge16 invariant-loop decreases-loop
+shape_of-bytes-then-low-ge16 c = search rules
 
-returns-4 : tie.Need-returns-4 invariant-loop decreases-loop
-returns-4 c = λ n h d. omega (arith, d.low c.before.before.before.before.before.before.before.loop.i (omega (arith, d.pairs)), c.before.before.digit2.ensures)
+returns-then-low-ge16 : tie.Need-returns-then-low-ge16 invariant-loop decreases-loop
+returns-then-low-ge16 c = λ n h d. omega (arith, d.low c.loop-i.i (omega (arith, d.pairs)), c.digit-low.ensures)
 
-mul-bytes : tie.Need-overflow-mul-bytes invariant-loop decreases-loop
-mul-bytes c = search rules
+overflow_mul-bytes : tie.Need-overflow_mul-bytes invariant-loop decreases-loop
+overflow_mul-bytes c = search rules
 
-add-bytes : tie.Need-overflow-add-bytes invariant-loop decreases-loop
-add-bytes c = search rules
+overflow_add-bytes : tie.Need-overflow_add-bytes invariant-loop decreases-loop
+overflow_add-bytes c = search rules
 
-slice-write-bytes : tie.Need-slice-write-bytes invariant-loop decreases-loop
-slice-write-bytes c = search rules
+bounds-bytes-i : tie.Need-bounds-bytes-i invariant-loop decreases-loop
+bounds-bytes-i c = search rules
 
-add-i : tie.Need-overflow-add-i invariant-loop decreases-loop
-add-i c = search rules
+overflow_add-i-in-loop-i : tie.Need-overflow_add-i-in-loop-i invariant-loop decreases-loop
+overflow_add-i-in-loop-i c = search rules
 
-loop-less : tie.Need-loop-smaller invariant-loop decreases-loop
-loop-less c = search rules
+loop-i-smaller : tie.Need-loop-i-smaller invariant-loop decreases-loop
+loop-i-smaller c = search rules
 
-loop-again : tie.Need-loop-preserved invariant-loop decreases-loop
-loop-again c =
-    let l = c.before.before.before.before.before.before.before.loop in
-    let high = c.before.before.before.before.digit in
-    let low = c.before.before.digit2 in (
+loop-i-preserved : tie.Need-loop-i-preserved invariant-loop decreases-loop
+loop-i-preserved c =
+    let l = c.loop-i in
+    let high = c.digit-high in
+    let low = c.digit-low in (
       omega arith,
       l.invariant.1,
       simp length-set l.invariant.2,
       simp length-set l.invariant.3,
       below_more _ _ l.invariant.4 (omega (arith, high.ensures)),
       below_more _ _ l.invariant.5 (omega (arith, low.ensures)),
-      values_more c.before.before.before.before.before.before.before.before.before.before.before.before.args.word.now l.bytes l.i _ (omega arith) l.invariant.6
+      values_more c.args.word.now l.bytes l.i _ (omega arith) l.invariant.6
           (omega (arith, high.ensures, low.ensures)),
     )
 
-same-length-3 : tie.Need-same-length-3 invariant-loop decreases-loop
-same-length-3 c = search rules
+shape_of-bytes : tie.Need-shape_of-bytes invariant-loop decreases-loop
+shape_of-bytes c = search rules
 
-returns-5 : tie.Need-returns-5 invariant-loop decreases-loop
-returns-5 c =
-    let inv = c.before.loop.invariant in
+returns : tie.Need-returns invariant-loop decreases-loop
+returns c =
+    let inv = c.loop-i.invariant in
     record {
       digits = record { pairs = inv.1; high = λ k h. inv.4 k (omega arith); low = λ k h. inv.5 k (omega arith) };
       fits = inv.2;
       values = λ k h. inv.6 k (omega arith);
     }
 
-pub hex-bytes-spec : {M : Type 1} → statement M
-hex-bytes-spec =
-    tie.close
-    (tie.spec
-    invariant-loop
-    decreases-loop
-    mul-if1
-    returns
-    returns-2
-    loop-holds
-    mul-digit
-    shared-slice-read-digit
-    digit-requires
-    mul-digit-2
-    add-digit
-    shared-slice-read-digit-2
-    digit-requires-2
-    same_length
-    returns-3
-    same-length-2
-    returns-4
-    mul-bytes
-    add-bytes
-    slice-write-bytes
-    add-i
-    loop-less
-    loop-again
-    same-length-3
-    returns-5)
+pub hex_bytes_spec : {M : Type 1} → statement M
+hex_bytes_spec = tie.close (tie.spec invariant-loop decreases-loop overflow_mul-n returns-then-word-n returns-then-bytes-n loop-i-init overflow_mul-i bounds-word-i digit-high-requires overflow_mul-i-in-loop-i overflow_add-i bounds-word-i-in-loop-i digit-low-requires shape_of-bytes-then-high-ge16 returns-then-high-ge16 shape_of-bytes-then-low-ge16 returns-then-low-ge16 overflow_mul-bytes overflow_add-bytes bounds-bytes-i overflow_add-i-in-loop-i loop-i-smaller loop-i-preserved shape_of-bytes returns)

@@ -17,35 +17,26 @@ whole : (word bytes : List ℕ) (r : Bytes) → (length word ≡ 0 → ⊥) → 
 whole word bytes (Count n) some none d = record { fits = d.fits; empty = λ e. absurd (some (omega (arith, d.digits.pairs))); spelt = λ _. d }
 whole word bytes Unreadable some none d = (none, λ n h. d n)
 
+returns-then-word-eq0 : tie.Need-returns-then-word-eq0
+returns-then-word-eq0 c = ((λ e. omega (arith, ap length e)), λ n h l d. omega (arith, d.pairs))
+
+bounds-word-0 : tie.Need-bounds-word-0
+bounds-word-0 c = search rules
+
+returns-then-word-eq45 : tie.Need-returns-then-word-eq45
+returns-then-word-eq45 c = record { fits = zero-le; empty = λ _. one _ 45 c.if-word-eq1.true c.if-word-eq45.true; spelt = λ h. absurd (omega arith) }
+
+returns-then-word-eq1 : tie.Need-returns-then-word-eq1
+returns-then-word-eq1 c = ((λ e. c.if-word-eq45.false (ap (λ (l : List ℕ). get_or l 0 0) e)), λ n h l d. omega (arith, d.pairs))
+
+hex_bytes-requires : tie.Need-hex_bytes-requires
+hex_bytes-requires c κs = search rules
+
+shape_of-bytes : tie.Need-shape_of-bytes
+shape_of-bytes c = search rules
+
 returns : tie.Need-returns
-returns c = ((λ e. omega (arith, ap length e)), λ n h l d. omega (arith, d.pairs))
+returns c = whole _ _ c.hex_bytes.result c.if-word-eq0.false (λ e. c.if-word-eq1.false (ap length e)) c.hex_bytes.ensures
 
-shared-slice-read-if3 : tie.Need-shared-slice-read-if3
-shared-slice-read-if3 c = search rules
-
-returns-2 : tie.Need-returns-2
-returns-2 c = record { fits = zero-le; empty = λ _. one _ 45 c.before.before.if2.true c.if3.true; spelt = λ h. absurd (omega arith) }
-
-returns-3 : tie.Need-returns-3
-returns-3 c = ((λ e. c.if3.false (ap (λ (l : List ℕ). get_or l 0 0) e)), λ n h l d. omega (arith, d.pairs))
-
-hex-bytes-requires : tie.Need-hex-bytes-requires
-hex-bytes-requires c κs = search rules
-
-same_length : tie.Need-same-length
-same_length c = search rules
-
-returns-4 : tie.Need-returns-4
-returns-4 c = whole _ _ c.before.before.hex-bytes.result c.before.before.before.before.before.if1.false (λ e. c.before.before.before.before.if2.false (ap length e)) c.before.before.hex-bytes.ensures
-
-pub record-bytes-spec : {M : Type 1} → statement M
-record-bytes-spec =
-    tie.close
-    (tie.spec
-    returns
-    shared-slice-read-if3
-    returns-2
-    returns-3
-    hex-bytes-requires
-    same_length
-    returns-4)
+pub record_bytes_spec : {M : Type 1} → statement M
+record_bytes_spec = tie.close (tie.spec returns-then-word-eq0 bounds-word-0 returns-then-word-eq45 returns-then-word-eq1 hex_bytes-requires shape_of-bytes returns)

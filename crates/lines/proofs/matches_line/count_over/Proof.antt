@@ -12,16 +12,14 @@ fill-requires-2 c κs = search rules
 count-requires : tie.Need-count-requires
 count-requires c κs = search rules
 
-same_length : tie.Need-same-length
-same_length c = search rules
+shape_of-parts : tie.Need-shape_of-parts
+shape_of-parts c = search rules
 
-same-length-2 : tie.Need-same-length-2
-same-length-2 c = search rules
+shape_of-pairs : tie.Need-shape_of-pairs
+shape_of-pairs c = search rules
 
 returns : tie.Need-returns
-returns c = rw (c.before.before.before.before.before.before.before.before.before.before.before.before.before.fill.auto.0, c.before.before.before.before.before.before.before.before.before.fill2.auto.0) at c.before.before.before.before.count.ensures.0
+returns c = rw (c.fill.auto.words, c.fill-2.auto.words) at c.count.ensures.0
 
-pub count-over-spec : {M : Type 1} → statement M
-count-over-spec =
-    tie.close
-    (tie.spec fill-requires fill-requires-2 count-requires same_length same-length-2 returns)
+pub count_over_spec : {M : Type 1} → statement M
+count_over_spec = tie.close (tie.spec fill-requires fill-requires-2 count-requires shape_of-parts shape_of-pairs returns)

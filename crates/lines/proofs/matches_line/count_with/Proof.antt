@@ -12,39 +12,29 @@ part_length l n h = simp length-take (omega arith)
 lent : (r : Bytes) (a b : List ℕ) (m n : ℕ) (x : TableAnswer) → m ≤ length a → n ≤ length b → x ≡ count_answer r (length (take (m - 0) a)) (length (take (n - 0) b)) → x ≡ count_answer r m n
 lent r a b m n x h g e = rw (part_length a m h, part_length b n g) at e
 
-sub-count-over : tie.Need-overflow-sub-count-over
-sub-count-over c = search rules
+slice_bounds-count_over-count : tie.Need-slice_bounds-count_over-count
+slice_bounds-count_over-count c = search rules
 
-part-first-start : tie.Need-slice-bounds-first-start
-part-first-start c = search rules
+slice_bounds-first-start : tie.Need-slice_bounds-first-start
+slice_bounds-first-start c = search rules
 
-part-first-end : tie.Need-slice-bounds-first-end
-part-first-end c = search rules
+slice_bounds-first-end : tie.Need-slice_bounds-first-end
+slice_bounds-first-end c = search rules
 
-sub-count-over-2 : tie.Need-overflow-sub-count-over-2
-sub-count-over-2 c = search rules
+slice_bounds-count_over-count-2 : tie.Need-slice_bounds-count_over-count-2
+slice_bounds-count_over-count-2 c = search rules
 
-part-second-start : tie.Need-slice-bounds-second-start
-part-second-start c = search rules
+slice_bounds-second-start : tie.Need-slice_bounds-second-start
+slice_bounds-second-start c = search rules
 
-part-second-end : tie.Need-slice-bounds-second-end
-part-second-end c = search rules
+slice_bounds-second-end : tie.Need-slice_bounds-second-end
+slice_bounds-second-end c = search rules
 
-count-over-requires : tie.Need-count-over-requires
-count-over-requires c κs = search rules
+count_over-requires : tie.Need-count_over-requires
+count_over-requires c κs = search rules
 
 returns : tie.Need-returns
-returns c = lent _ _ _ _ _ _ c.before.before.before.before.before.before.requires.0 c.before.before.before.before.before.before.requires.1 c.before.before.count-over.ensures
+returns c = lent _ _ _ _ _ _ c.requires.0 c.requires.1 c.count_over.ensures
 
-pub count-with-spec : {M : Type 1} → statement M
-count-with-spec =
-    tie.close
-    (tie.spec
-    sub-count-over
-    part-first-start
-    part-first-end
-    sub-count-over-2
-    part-second-start
-    part-second-end
-    count-over-requires
-    returns)
+pub count_with_spec : {M : Type 1} → statement M
+count_with_spec = tie.close (tie.spec slice_bounds-count_over-count slice_bounds-first-start slice_bounds-first-end slice_bounds-count_over-count-2 slice_bounds-second-start slice_bounds-second-end count_over-requires returns)

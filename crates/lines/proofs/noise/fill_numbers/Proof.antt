@@ -10,59 +10,44 @@ numbers_more l i v w old h =
     (λ k g. omega (arith, get_or-set_other l i k v 0 (λ q. omega arith), old k g))
     (omega (arith, get_or-set_same l i v 0 w))
 
-abbrev invariant-loop : tie.invariant-loop
+abbrev invariant-loop : tie.invariant-loop-i
 invariant-loop numbers₀ i₀ numbers i = (i ≤ length numbers₀) × (length numbers ≡ length numbers₀) × ((k : ℕ) → k < i → 0 < get_or numbers k 0)
 
-abbrev decreases-loop : tie.decreases-loop
+abbrev decreases-loop : tie.decreases-loop-i
 decreases-loop numbers₀ i₀ numbers i = length numbers₀ - i
 
-loop-holds : tie.Need-loop-init invariant-loop decreases-loop
-loop-holds c = search rules
+loop-i-init : tie.Need-loop-i-init invariant-loop decreases-loop
+loop-i-init c = search rules
 
-mul-numbers : tie.Need-overflow-mul-numbers invariant-loop decreases-loop
-mul-numbers c = search rules
+overflow_mul-numbers : tie.Need-overflow_mul-numbers invariant-loop decreases-loop
+overflow_mul-numbers c = search rules
 
-add-numbers : tie.Need-overflow-add-numbers invariant-loop decreases-loop
-add-numbers c = search rules
+overflow_add-numbers : tie.Need-overflow_add-numbers invariant-loop decreases-loop
+overflow_add-numbers c = search rules
 
-cast-numbers : tie.Need-overflow-cast-numbers invariant-loop decreases-loop
-cast-numbers c = search rules
+overflow_cast-numbers : tie.Need-overflow_cast-numbers invariant-loop decreases-loop
+overflow_cast-numbers c = search rules
 
-mul-numbers-2 : tie.Need-overflow-mul-numbers-2 invariant-loop decreases-loop
-mul-numbers-2 c = search rules
+offset_bounds-numbers-i : tie.Need-offset_bounds-numbers-i invariant-loop decreases-loop
+offset_bounds-numbers-i c = search rules
 
-slice-write-numbers : tie.Need-slice-write-numbers invariant-loop decreases-loop
-slice-write-numbers c = search rules
+bounds-numbers-i : tie.Need-bounds-numbers-i invariant-loop decreases-loop
+bounds-numbers-i c = search rules
 
-add-i : tie.Need-overflow-add-i invariant-loop decreases-loop
-add-i c = search rules
+overflow_add-i : tie.Need-overflow_add-i invariant-loop decreases-loop
+overflow_add-i c = search rules
 
-loop-less : tie.Need-loop-smaller invariant-loop decreases-loop
-loop-less c = search rules
+loop-i-smaller : tie.Need-loop-i-smaller invariant-loop decreases-loop
+loop-i-smaller c = search rules
 
-loop-again : tie.Need-loop-preserved invariant-loop decreases-loop
-loop-again c = (search rules, search rules, numbers_more c.before.loop.numbers c.before.loop.i _ (search rules) c.before.loop.invariant.2 (search rules))
+loop-i-preserved : tie.Need-loop-i-preserved invariant-loop decreases-loop
+loop-i-preserved c = (search rules, search rules, numbers_more c.loop-i.numbers c.loop-i.i _ (search rules) c.loop-i.invariant.2 (search rules))
 
-same_length : tie.Need-same-length invariant-loop decreases-loop
-same_length c = search rules
+shape_of-numbers : tie.Need-shape_of-numbers invariant-loop decreases-loop
+shape_of-numbers c = search rules
 
 returns : tie.Need-returns invariant-loop decreases-loop
-returns c = λ k h. c.before.loop.invariant.2 k (omega arith)
+returns c = λ k h. c.loop-i.invariant.2 k (omega arith)
 
-pub fill-numbers-spec : {M : Type 1} → statement M
-fill-numbers-spec =
-    tie.close
-    (tie.spec
-    invariant-loop
-    decreases-loop
-    loop-holds
-    mul-numbers
-    add-numbers
-    cast-numbers
-    mul-numbers-2
-    slice-write-numbers
-    add-i
-    loop-less
-    loop-again
-    same_length
-    returns)
+pub fill_numbers_spec : {M : Type 1} → statement M
+fill_numbers_spec = tie.close (tie.spec invariant-loop decreases-loop loop-i-init overflow_mul-numbers overflow_add-numbers overflow_cast-numbers offset_bounds-numbers-i bounds-numbers-i overflow_add-i loop-i-smaller loop-i-preserved shape_of-numbers returns)

@@ -41,73 +41,56 @@ module _ (base : ℕ) (word : List ℕ) where
   passed_all : (i v : ℕ) → Passed i v → length word ≤ i → v ≡ value_of base word
   passed_all i v p h = p.value ∙ ap (value_of base) (take_all i word h)
 
-abbrev invariant-loop : tie.invariant-loop
+abbrev invariant-loop : tie.invariant-loop-i
 invariant-loop word base most value₀ i₀ value i = (i ≤ length word) × Passed base word i value
 
-abbrev decreases-loop : tie.decreases-loop
+abbrev decreases-loop : tie.decreases-loop-i
 decreases-loop word base most value₀ i₀ value i = length word - i
 
-returns : tie.Need-returns invariant-loop decreases-loop
-returns c = λ d. omega (arith, d.some)
+returns-then-word-eq0 : tie.Need-returns-then-word-eq0 invariant-loop decreases-loop
+returns-then-word-eq0 c = λ d. omega (arith, d.some)
 
-returns-2 : tie.Need-returns-2 invariant-loop decreases-loop
-returns-2 c = λ d. omega (arith, d.few)
+returns-then-most-word : tie.Need-returns-then-most-word invariant-loop decreases-loop
+returns-then-most-word c = λ d. omega (arith, d.few)
 
-loop-holds : tie.Need-loop-init invariant-loop decreases-loop
-loop-holds c = (search rules, passed_none _ _)
+loop-i-init : tie.Need-loop-i-init invariant-loop decreases-loop
+loop-i-init c = (search rules, passed_none _ _)
 
-shared-slice-read-digit : tie.Need-shared-slice-read-digit invariant-loop decreases-loop
-shared-slice-read-digit c = search rules
+bounds-word-i : tie.Need-bounds-word-i invariant-loop decreases-loop
+bounds-word-i c = search rules
 
-digit-requires : tie.Need-digit-requires invariant-loop decreases-loop
-digit-requires c κs = search rules
+digit-d-requires : tie.Need-digit-d-requires invariant-loop decreases-loop
+digit-d-requires c κs = search rules
 
-cast-d : tie.Need-overflow-cast-d invariant-loop decreases-loop
-cast-d c = search rules
+overflow_cast-d : tie.Need-overflow_cast-d invariant-loop decreases-loop
+overflow_cast-d c = search rules
 
-returns-3 : tie.Need-returns-3 invariant-loop decreases-loop
-returns-3 c = λ d. omega (arith, d.digits c.before.before.before.before.loop.i (omega arith), c.before.digit.ensures)
+returns-then-base-d : tie.Need-returns-then-base-d invariant-loop decreases-loop
+returns-then-base-d c = λ d. omega (arith, d.digits c.loop-i.i (omega arith), c.digit-d.ensures)
 
 -- what a turn computes fits
-turn_fits : (c : tie.Else3 invariant-loop decreases-loop) → c.before.before.before.before.loop.value * c.before.before.before.before.before.before.before.before.args.base + c.before.digit.result < 2 ^ 64
-turn_fits c = let l = c.before.before.before.before.loop in next_fits _ _ _ _ _ l.invariant.1 (omega arith) _ (omega arith) c.before.before.before.before.before.before.before.before.requires.1
+turn_fits : (c : tie.Else-base-d invariant-loop decreases-loop) → c.loop-i.value * c.args.base + c.digit-d.result < 2 ^ 64
+turn_fits c = let l = c.loop-i in next_fits _ _ _ _ _ l.invariant.1 (omega arith) _ (omega arith) c.requires.1
 
-mul-value : tie.Need-overflow-mul-value invariant-loop decreases-loop
-mul-value c = omega (arith, turn_fits c)
+overflow_mul-value : tie.Need-overflow_mul-value invariant-loop decreases-loop
+overflow_mul-value c = omega (arith, turn_fits c)
 
-add-value : tie.Need-overflow-add-value invariant-loop decreases-loop
-add-value c = omega (arith, turn_fits c)
+overflow_add-value : tie.Need-overflow_add-value invariant-loop decreases-loop
+overflow_add-value c = omega (arith, turn_fits c)
 
-add-i : tie.Need-overflow-add-i invariant-loop decreases-loop
-add-i c = search rules
+overflow_add-i : tie.Need-overflow_add-i invariant-loop decreases-loop
+overflow_add-i c = search rules
 
-loop-less : tie.Need-loop-smaller invariant-loop decreases-loop
-loop-less c = search rules
+loop-i-smaller : tie.Need-loop-i-smaller invariant-loop decreases-loop
+loop-i-smaller c = search rules
 
-loop-again : tie.Need-loop-preserved invariant-loop decreases-loop
-loop-again c = (search rules, passed_more _ _ _ _ _ c.before.before.before.before.loop.invariant.1 (omega arith) (omega arith) c.before.digit.ensures)
+loop-i-preserved : tie.Need-loop-i-preserved invariant-loop decreases-loop
+loop-i-preserved c = (search rules, passed_more _ _ _ _ _ c.loop-i.invariant.1 (omega arith) (omega arith) c.digit-d.ensures)
 
-returns-4 : tie.Need-returns-4 invariant-loop decreases-loop
-returns-4 c =
-    let p = c.before.loop.invariant.1 in
+returns : tie.Need-returns invariant-loop decreases-loop
+returns c =
+    let p = c.loop-i.invariant.1 in
     (record { some = search rules; few = search rules; digits = λ k h. p.digits k (omega arith) }, passed_all _ _ _ _ p (omega arith))
 
 pub read_spec : {M : Type 1} → statement M
-read_spec =
-    tie.close
-    (tie.spec
-    invariant-loop
-    decreases-loop
-    returns
-    returns-2
-    loop-holds
-    shared-slice-read-digit
-    digit-requires
-    cast-d
-    returns-3
-    mul-value
-    add-value
-    add-i
-    loop-less
-    loop-again
-    returns-4)
+read_spec = tie.close (tie.spec invariant-loop decreases-loop returns-then-word-eq0 returns-then-most-word loop-i-init bounds-word-i digit-d-requires overflow_cast-d returns-then-base-d overflow_mul-value overflow_add-value overflow_add-i loop-i-smaller loop-i-preserved returns)

@@ -3,153 +3,116 @@ use Rattle.std.proofs.Common.{rules}
 use Rattle.lines.proofs.score_line.lengths.Statement.{statement}
 use Rattle.lines.proofs.score_line.lengths.Tie as tie
 
-is-last-requires : tie.Need-is-last-requires
-is-last-requires c κs = search rules
+is_last-requires : tie.Need-is_last-requires
+is_last-requires c κs = search rules
 
-returns : tie.Need-returns
-returns c = search rules
+returns-then-is_last : tie.Need-returns-then-is_last
+returns-then-is_last c = search rules
 
-next-word-requires : tie.Need-next-word-requires
-next-word-requires c κs = search rules
+next_word-first-requires : tie.Need-next_word-first-requires
+next_word-first-requires c κs = search rules
 
-next-word-requires-2 : tie.Need-next-word-requires-2
-next-word-requires-2 c κs = search rules
+next_word-second-requires : tie.Need-next_word-second-requires
+next_word-second-requires c κs = search rules
 
-next-word-requires-3 : tie.Need-next-word-requires-3
-next-word-requires-3 c κs = search rules
+next_word-third-requires : tie.Need-next_word-third-requires
+next_word-third-requires c κs = search rules
 
-next-word-requires-4 : tie.Need-next-word-requires-4
-next-word-requires-4 c κs = search rules
+next_word-fourth-requires : tie.Need-next_word-fourth-requires
+next_word-fourth-requires c κs = search rules
 
-next-word-requires-5 : tie.Need-next-word-requires-5
-next-word-requires-5 c κs = search rules
+next_word-fifth-requires : tie.Need-next_word-fifth-requires
+next_word-fifth-requires c κs = search rules
 
-is-last-requires-2 : tie.Need-is-last-requires-2
-is-last-requires-2 c κs = search rules
+is_last-requires-2 : tie.Need-is_last-requires-2
+is_last-requires-2 c κs = search rules
 
-returns-2 : tie.Need-returns-2
-returns-2 c = search rules
+returns-then-not-is_last : tie.Need-returns-then-not-is_last
+returns-then-not-is_last c = search rules
 
 text-requires : tie.Need-text-requires
 text-requires c κs = search rules
 
-number-to-requires : tie.Need-number-to-requires
-number-to-requires c κs = search rules
+number_to-requires : tie.Need-number_to-requires
+number_to-requires c κs = search rules
 
-enum-known-trail : tie.Need-enum-known-trail
-enum-known-trail c = search rules
+enum_known-trail : tie.Need-enum_known-trail
+enum_known-trail c = search rules
 
-enum_told : tie.Need-enum-told
-enum_told c = search rules
+enum_told-1 : tie.Need-enum_told-1
+enum_told-1 c = search rules
 
-returns-3 : tie.Need-returns-3
-returns-3 c = search rules
+returns-in_default : tie.Need-returns-in_default
+returns-in_default c = search rules
 
 text-requires-2 : tie.Need-text-requires-2
 text-requires-2 c κs = search rules
 
-number-to-requires-2 : tie.Need-number-to-requires-2
-number-to-requires-2 c κs = search rules
+number_to-requires-2 : tie.Need-number_to-requires-2
+number_to-requires-2 c κs = search rules
 
-enum-known-parts : tie.Need-enum-known-parts
-enum-known-parts c = search rules
+enum_known-parts : tie.Need-enum_known-parts
+enum_known-parts c = search rules
 
-enum-told-2 : tie.Need-enum-told-2
-enum-told-2 c = search rules
+enum_told-in_default-number_to : tie.Need-enum_told-in_default-number_to
+enum_told-in_default-number_to c = search rules
 
-returns-4 : tie.Need-returns-4
-returns-4 c = search rules
+returns-in_default-number_to : tie.Need-returns-in_default-number_to
+returns-in_default-number_to c = search rules
 
 text-requires-3 : tie.Need-text-requires-3
 text-requires-3 c κs = search rules
 
-number-to-requires-3 : tie.Need-number-to-requires-3
-number-to-requires-3 c κs = search rules
+number_to-requires-3 : tie.Need-number_to-requires-3
+number_to-requires-3 c κs = search rules
 
-enum-known-pairs : tie.Need-enum-known-pairs
-enum-known-pairs c = search rules
+enum_known-pairs : tie.Need-enum_known-pairs
+enum_known-pairs c = search rules
 
-enum-told-3 : tie.Need-enum-told-3
-enum-told-3 c = search rules
+enum_told-in_default-number_to-2 : tie.Need-enum_told-in_default-number_to-2
+enum_told-in_default-number_to-2 c = search rules
 
-returns-5 : tie.Need-returns-5
-returns-5 c = search rules
+returns-in_default-number_to-2 : tie.Need-returns-in_default-number_to-2
+returns-in_default-number_to-2 c = search rules
 
 text-requires-4 : tie.Need-text-requires-4
 text-requires-4 c κs = search rules
 
-number-to-requires-4 : tie.Need-number-to-requires-4
-number-to-requires-4 c κs = search rules
+number_to-requires-4 : tie.Need-number_to-requires-4
+number_to-requires-4 c κs = search rules
 
-enum-known-memo : tie.Need-enum-known-memo
-enum-known-memo c = search rules
+enum_known-memo : tie.Need-enum_known-memo
+enum_known-memo c = search rules
 
-enum-told-4 : tie.Need-enum-told-4
-enum-told-4 c = search rules
+enum_told-in_default-number_to-3 : tie.Need-enum_told-in_default-number_to-3
+enum_told-in_default-number_to-3 c = search rules
 
-returns-6 : tie.Need-returns-6
-returns-6 c = search rules
+returns-in_default-number_to-3 : tie.Need-returns-in_default-number_to-3
+returns-in_default-number_to-3 c = search rules
 
 text-requires-5 : tie.Need-text-requires-5
-text-requires-5 c κs = c.before.before.before.before.before.before.before.before.before.before.before.before.before.before.before.before.before.before.before.before.before.before.next-word5.ensures.within
+text-requires-5 c κs = c.next_word-fifth.ensures.within
 
-number-to-requires-5 : tie.Need-number-to-requires-5
-number-to-requires-5 c κs = search rules
+number_to-requires-5 : tie.Need-number_to-requires-5
+number_to-requires-5 c κs = search rules
 
-enum-known-desk : tie.Need-enum-known-desk
-enum-known-desk c = search rules
+enum_known-desk : tie.Need-enum_known-desk
+enum_known-desk c = search rules
 
-enum-told-5 : tie.Need-enum-told-5
-enum-told-5 c = search rules
+enum_told-in_default-number_to-4 : tie.Need-enum_told-in_default-number_to-4
+enum_told-in_default-number_to-4 c = search rules
 
-returns-7 : tie.Need-returns-7
-returns-7 c = search rules
+returns-in_default-number_to-4 : tie.Need-returns-in_default-number_to-4
+returns-in_default-number_to-4 c = search rules
 
-returns-8 : tie.Need-returns-8
-returns-8 c = record {
-  trail = rw c.before.before.before.before.before.before.before.before.before.before.before.before.before.before.before.before.before.before.before.before.before.trail.given.1 at c.before.before.before.before.before.before.before.before.before.before.before.before.before.before.before.before.before.before.before.before.before.before.before.number-to.ensures;
-  parts = rw c.before.before.before.before.before.before.before.before.before.before.before.before.before.before.before.before.parts.given.1 at c.before.before.before.before.before.before.before.before.before.before.before.before.before.before.before.before.before.before.number-to2.ensures;
-  pairs = rw c.before.before.before.before.before.before.before.before.before.before.before.pairs.given.1 at c.before.before.before.before.before.before.before.before.before.before.before.before.before.number-to3.ensures;
-  memo = rw c.before.before.before.before.before.before.memo.given.1 at c.before.before.before.before.before.before.before.before.number-to4.ensures;
-  desk = rw c.before.desk.given.1 at c.before.before.before.number-to5.ensures;
+returns : tie.Need-returns
+returns c = record {
+  trail = rw c.in-Value.is at c.number_to.ensures;
+  parts = rw c.in-Value-number_to.is at c.number_to-2.ensures;
+  pairs = rw c.in-Value-number_to-2.is at c.number_to-3.ensures;
+  memo = rw c.in-Value-number_to-3.is at c.number_to-4.ensures;
+  desk = rw c.in-Value-number_to-4.is at c.number_to-5.ensures;
 }
 
-pub lengths-spec : {M : Type 1} → statement M
-lengths-spec =
-    tie.close
-    (tie.spec
-    is-last-requires
-    returns
-    next-word-requires
-    next-word-requires-2
-    next-word-requires-3
-    next-word-requires-4
-    next-word-requires-5
-    is-last-requires-2
-    returns-2
-    text-requires
-    number-to-requires
-    enum-known-trail
-    enum_told
-    returns-3
-    text-requires-2
-    number-to-requires-2
-    enum-known-parts
-    enum-told-2
-    returns-4
-    text-requires-3
-    number-to-requires-3
-    enum-known-pairs
-    enum-told-3
-    returns-5
-    text-requires-4
-    number-to-requires-4
-    enum-known-memo
-    enum-told-4
-    returns-6
-    text-requires-5
-    number-to-requires-5
-    enum-known-desk
-    enum-told-5
-    returns-7
-    returns-8)
+pub lengths_spec : {M : Type 1} → statement M
+lengths_spec = tie.close (tie.spec is_last-requires returns-then-is_last next_word-first-requires next_word-second-requires next_word-third-requires next_word-fourth-requires next_word-fifth-requires is_last-requires-2 returns-then-not-is_last text-requires number_to-requires enum_known-trail enum_told-1 returns-in_default text-requires-2 number_to-requires-2 enum_known-parts enum_told-in_default-number_to returns-in_default-number_to text-requires-3 number_to-requires-3 enum_known-pairs enum_told-in_default-number_to-2 returns-in_default-number_to-2 text-requires-4 number_to-requires-4 enum_known-memo enum_told-in_default-number_to-3 returns-in_default-number_to-3 text-requires-5 number_to-requires-5 enum_known-desk enum_told-in_default-number_to-4 returns-in_default-number_to-4 returns)

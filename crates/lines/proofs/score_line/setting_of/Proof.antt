@@ -3,71 +3,53 @@ use Rattle.std.proofs.Common.{arith, rules}
 use Rattle.lines.proofs.score_line.setting_of.Statement.{statement}
 use Rattle.lines.proofs.score_line.setting_of.Tie as tie
 
-number-to-requires : tie.Need-number-to-requires
-number-to-requires c κs = search rules
+number_to-requires : tie.Need-number_to-requires
+number_to-requires c κs = search rules
 
-enum-known-first : tie.Need-enum-known-first
-enum-known-first c = search rules
+enum_known-first : tie.Need-enum_known-first
+enum_known-first c = search rules
 
-enum_told : tie.Need-enum-told
-enum_told c = search rules
+enum_told-1 : tie.Need-enum_told-1
+enum_told-1 c = search rules
+
+returns-in_default : tie.Need-returns-in_default
+returns-in_default c = search rules
+
+number_to-requires-2 : tie.Need-number_to-requires-2
+number_to-requires-2 c κs = search rules
+
+enum_known-second : tie.Need-enum_known-second
+enum_known-second c = search rules
+
+enum_told-in_default-number_to : tie.Need-enum_told-in_default-number_to
+enum_told-in_default-number_to c = search rules
+
+returns-in_default-number_to : tie.Need-returns-in_default-number_to
+returns-in_default-number_to c = search rules
+
+number_to-requires-3 : tie.Need-number_to-requires-3
+number_to-requires-3 c κs = search rules
+
+enum_known-third : tie.Need-enum_known-third
+enum_known-third c = search rules
+
+enum_told-in_default-number_to-2 : tie.Need-enum_told-in_default-number_to-2
+enum_told-in_default-number_to-2 c = search rules
+
+returns-in_default-number_to-2 : tie.Need-returns-in_default-number_to-2
+returns-in_default-number_to-2 c = search rules
+
+overflow_cast-result : tie.Need-overflow_cast-result
+overflow_cast-result c = omega (arith, rw c.in-Value.is at c.number_to.ensures)
+
+overflow_cast-result-2 : tie.Need-overflow_cast-result-2
+overflow_cast-result-2 c = omega (arith, rw c.in-Value-number_to.is at c.number_to-2.ensures)
+
+overflow_cast-result-3 : tie.Need-overflow_cast-result-3
+overflow_cast-result-3 c = omega (arith, rw c.in-Value-number_to-2.is at c.number_to-3.ensures)
 
 returns : tie.Need-returns
 returns c = search rules
 
-number-to-requires-2 : tie.Need-number-to-requires-2
-number-to-requires-2 c κs = search rules
-
-enum-known-second : tie.Need-enum-known-second
-enum-known-second c = search rules
-
-enum-told-2 : tie.Need-enum-told-2
-enum-told-2 c = search rules
-
-returns-2 : tie.Need-returns-2
-returns-2 c = search rules
-
-number-to-requires-3 : tie.Need-number-to-requires-3
-number-to-requires-3 c κs = search rules
-
-enum-known-third : tie.Need-enum-known-third
-enum-known-third c = search rules
-
-enum-told-3 : tie.Need-enum-told-3
-enum-told-3 c = search rules
-
-returns-3 : tie.Need-returns-3
-returns-3 c = search rules
-
-cast-t10 : tie.Need-overflow-cast-t10
-cast-t10 c = omega (arith, rw c.before.before.before.before.before.before.before.before.before.first.given.1 at c.before.before.before.before.before.before.before.before.before.before.before.number-to.ensures)
-
-cast-t11 : tie.Need-overflow-cast-t11
-cast-t11 c = omega (arith, rw c.before.before.before.before.before.second.given.1 at c.before.before.before.before.before.before.before.number-to2.ensures)
-
-cast-t12 : tie.Need-overflow-cast-t12
-cast-t12 c = omega (arith, rw c.before.third.given.1 at c.before.before.before.number-to3.ensures)
-
-returns-4 : tie.Need-returns-4
-returns-4 c = search rules
-
-pub setting-of-spec : {M : Type 1} → statement M
-setting-of-spec =
-    tie.close
-    (tie.spec
-    number-to-requires
-    enum-known-first
-    enum_told
-    returns
-    number-to-requires-2
-    enum-known-second
-    enum-told-2
-    returns-2
-    number-to-requires-3
-    enum-known-third
-    enum-told-3
-    returns-3
-    cast-t10
-    cast-t11
-    cast-t12
-    returns-4)
+pub setting_of_spec : {M : Type 1} → statement M
+setting_of_spec = tie.close (tie.spec number_to-requires enum_known-first enum_told-1 returns-in_default number_to-requires-2 enum_known-second enum_told-in_default-number_to returns-in_default-number_to number_to-requires-3 enum_known-third enum_told-in_default-number_to-2 returns-in_default-number_to-2 overflow_cast-result overflow_cast-result-2 overflow_cast-result-3 returns)
