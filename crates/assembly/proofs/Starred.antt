@@ -1,5 +1,5 @@
 -- Document 01, 'Molecules to try': the starred rows as score answers them, by its contract. Assumes nothing.
-use mathlib.Core.Path.{◌≡◌, refl, sym, ◌∙◌}
+use mathlib.Core.Path.{◌≡◌, ◌∙◌}
 use mathlib.Core.List.Memᴰ.{cases_cons as mem_cons}
 use mathlib.Core.List.Memᴰ.{not-nil}
 use mathlib.Core.List.{List, [], ◌∷◌, map, Memᴰ as Mem}

@@ -18,15 +18,15 @@ use mathlib.Core.List.Permᴰ.{swap as p_swap}
 use mathlib.Core.List.Permᴰ.{symm as perm_sym}
 use mathlib.Core.List.Permᴰ.{trans as p_trans}
 use mathlib.Core.List.{List, [], ◌∷◌, ◌++◌, map, append_assoc, append-nil, Memᴰ as Mem, Permᴰ as Perm}
-use Prim.Native.Nat.{ℕ, zero, suc, ◌+◌, ◌≤◌}
+use Prim.Native.Nat.{ℕ, zero, suc, ◌≤◌}
 use native.Mathlib.Omega.{arith}
 use lib.ListN.{length}
 use lib.Dec.{eqb}
 use Rattle.molecule.proofs.Perms.{not_both, perm_append, perm_exchange, perm_eq, perm_mem, Distinct, distinct_perm, perm_map, map-append, keep_mem, keep_split, eqb_yes, eqb_no}
 use Rattle.canonize.specs.Fragment.{Bond, Frag, arcs, end_atom, more, to_ends, turn}
 use Rattle.molecule.specs.Lists.{filter}
-use Rattle.canonize.proofs.RoseTrees.{Kids, nil, kid, RoseTree, bonds, code, two_code, Code, GoodKids, Good, pair, here, ◌≈◌, shape_of_code, shape_of_two, one_not_two}
-use Rattle.canonize.proofs.Pairing.{Item, items, on_item, atoms, all_items, all_atoms, items_atoms, Iso, iso_of_shape, iso_atoms}
+use Rattle.canonize.proofs.RoseTrees.{Kids, nil, kid, RoseTree, code, two_code, Code, GoodKids, Good, pair, here, ◌≈◌, shape_of_code, shape_of_two, one_not_two}
+use Rattle.canonize.proofs.Pairing.{Item, items, on_item, all_items, all_atoms, items_atoms, Iso, iso_of_shape, iso_atoms}
 use Rattle.canonize.proofs.Sums.{flat, flat_perm}
 use Rattle.canonize.proofs.Peeling.{on_bond, both, TreePeel, gather, tree_round, tree_peel, settle_more, settle_stop, tree_at, tree_two, tree_last, tree_start, tree_label, Joined, FormedFrag, label_of_joined}
 use Rattle.canonize.proofs.Rounds.{Treelike, stay, going, below, to_item, to_bond, arcs_perm, arcs_append, arcs_cut, arcs_mem, ends_apart, ends_going, round_shorter, round_tree, round_items}

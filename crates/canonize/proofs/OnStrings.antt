@@ -11,14 +11,14 @@ use mathlib.Core.List.Permᴰ.{refl as perm_refl}
 use mathlib.Core.List.Permᴰ.{symm as perm_sym}
 use mathlib.Core.List.Permᴰ.{trans as p_trans}
 use mathlib.Core.List.{List, [], ◌∷◌, ◌++◌, map, Permᴰ as Perm}
-use Prim.Native.Nat.{ℕ, zero, suc, ◌+◌}
+use Prim.Native.Nat.{ℕ, zero, suc}
 use lib.ListN.{length}
 use Rattle.molecule.proofs.Perms.{perm_eq, map_agree}
 use Rattle.canonize.specs.Fragment.{Bond, Frag, Peel, arcs, end_atom, finish, label_of, more, peel, round, start, to_ends, two_left}
 use Rattle.canonize.specs.Strings.{collapse}
 use Rattle.molecule.specs.Lists.{filter}
 use Rattle.canonize.proofs.Wrapping.{collapse_canonical}
-use Rattle.canonize.proofs.RoseTrees.{strings, node_code, code, two_code}
+use Rattle.canonize.proofs.RoseTrees.{strings, node_code, two_code}
 use Rattle.canonize.proofs.Peeling.{both, TreePeel, gather, gather_strings, tree_round, tree_peel, settle_more, settle_stop, tree_two, tree_last, tree_start, tree_label}
 
 -- a round more, or none

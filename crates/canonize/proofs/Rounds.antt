@@ -24,7 +24,7 @@ use lib.Dec.{eqb}
 use Rattle.molecule.proofs.Perms.{not_both, perm_append, perm_exchange, perm_eq, perm_length, perm_mem, mem_some, Distinct, perm_map, keep_perm, keep_mem, keep_intro, keep_map, keep_same, keep_split, keep_distinct, map_agree, eqb_yes, eqb_no}
 use Rattle.canonize.specs.Fragment.{Bond, arcs, degree, end_atom, more, to_ends, turn}
 use Rattle.molecule.specs.Lists.{filter, pick}
-use Rattle.canonize.proofs.RoseTrees.{Kids, code}
+use Rattle.canonize.proofs.RoseTrees.{Kids}
 use Rattle.canonize.proofs.Pairing.{Item, item, items}
 use Rattle.canonize.proofs.Sums.{flat, flat_append, flat_perm, flat_agree, flat_split, flat_length, flat_map, map_flat, flat_flat, flat_keep, group, keep_both}
 use Rattle.canonize.proofs.Peeling.{both, both_swap, gather, arcs_length, arcs_keep}

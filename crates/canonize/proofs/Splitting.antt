@@ -12,7 +12,7 @@ use mathlib.Core.List.Permᴰ.{refl as perm_refl}
 use mathlib.Core.List.Permᴰ.{symm as perm_sym}
 use mathlib.Core.List.Permᴰ.{trans as p_trans}
 use mathlib.Core.List.{List, [], ◌∷◌, ◌++◌, map, Memᴰ as Mem, Permᴰ as Perm}
-use Prim.Native.Nat.{ℕ, ◌+◌, ◌-◌, ◌^◌}
+use Prim.Native.Nat.{ℕ, ◌^◌}
 use native.Mathlib.Omega.{arith}
 use Rattle.bitset.specs.Bits.{bit, diff, members}
 use Rattle.bitset.proofs.Members.{members_bit}

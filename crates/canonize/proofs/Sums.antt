@@ -14,7 +14,7 @@ use mathlib.Core.List.Permᴰ.{refl as perm_refl}
 use mathlib.Core.List.Permᴰ.{swap as p_swap}
 use mathlib.Core.List.Permᴰ.{trans as p_trans}
 use mathlib.Core.List.{List, [], ◌∷◌, ◌++◌, map, append_assoc, Memᴰ as Mem, Permᴰ as Perm}
-use Prim.Native.Nat.{ℕ, ◌+◌, ◌*◌, ◌≤◌}
+use Prim.Native.Nat.{ℕ, ◌*◌, ◌≤◌}
 use native.Mathlib.Omega.{arith}
 use native.Mathlib.Nat.{mul-suc}
 use lib.ListN.{length, length-append}

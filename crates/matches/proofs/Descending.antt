@@ -1,7 +1,7 @@
 -- Matches in descending order with no sort: for each node x from the last down, the nodes y of its group below it, from x − 1 down, that are disjoint from it. Assumes nothing.
 use mathlib.Core.Path.{◌≡◌, refl, sym, ap, ap₂, ◌∙◌, subst}
 use mathlib.Core.Logic.{◌⊎◌, inl, inr, ◌≢◌, ⊎_elim}
-use mathlib.Core.Bool.{Bool, true, false, true≢false, ◌&&◌}
+use mathlib.Core.Bool.{Bool, true, true≢false, ◌&&◌}
 use mathlib.Core.List.Memᴰ.{append_cases as mem_cases}
 use mathlib.Core.List.Memᴰ.{append_left as mem_left}
 use mathlib.Core.List.Memᴰ.{append_right as mem_right}

@@ -20,7 +20,7 @@ use Rattle.matches.specs.Laws.{Twins, IsMatch, Laws}
 use Rattle.matches.specs.Inner.Ranks.{Akin, Precedes}
 use Rattle.matches.specs.Inner.Descending.{Starts}
 use Rattle.matches.proofs.Sizes.{unsorted_sane}
-use Rattle.matches.proofs.Listed.{nodes, sorted_distinct, matches_are, m1, m2}
+use Rattle.matches.proofs.Listed.{sorted_distinct, matches_are, m1, m2}
 use Rattle.matches.proofs.Complete.{m3, all_listed}
 use Rattle.matches.proofs.Descending.{group_start, together, group_starts}
 -- there are as many pairs as matches; rows 9 and 10

@@ -10,7 +10,7 @@ use mathlib.Core.List.Permᴰ.{cons as p_cons}
 use mathlib.Core.List.Permᴰ.{middle as perm_middle}
 use mathlib.Core.List.Permᴰ.{trans as p_trans}
 use mathlib.Core.List.{List, [], ◌∷◌, ◌++◌, map, flat_map, flatten, Memᴰ as Mem}
-use Prim.Native.Nat.{ℕ, suc, ◌+◌, ◌-◌, ◌≤◌, ◌<◌}
+use Prim.Native.Nat.{ℕ, suc, ◌≤◌, ◌<◌}
 use native.Mathlib.Omega.{arith}
 use lib.Bits.{bit_and}
 use lib.ListN.{length}

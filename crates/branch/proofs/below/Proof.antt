@@ -7,9 +7,6 @@ use lib.ListN.{length}
 use Rattle.branch.proofs.Branching.{word_size, below_asks, below_is}
 use Rattle.branch.proofs.below.Statement.{statement}
 use Rattle.branch.proofs.below.Tie as tie
-use Rattle.branch.proofs.below.Reads as reads
-use Rattle.branch.proofs.below.Lts as lts
-use Rattle.state.proofs.child.Reads as child-reads
 
 overflow_mul-m : tie.Need-overflow_mul-m
 overflow_mul-m c = search rules

@@ -2,8 +2,6 @@
 use borrow.Author.Tests.{eq-eqb, ne_eqb}
 use Rattle.branch.proofs.has.Statement.{statement}
 use Rattle.branch.proofs.has.Tie as tie
-use Rattle.branch.proofs.has.Reads as reads
-use Rattle.branch.proofs.has.Lts as lts
 
 returns-then-bounds-bound : tie.Need-returns-then-bounds-bound
 returns-then-bounds-bound c = rw (eq-eqb _ _ c.if-bounds-bound.true)

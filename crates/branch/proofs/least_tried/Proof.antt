@@ -1,13 +1,9 @@
 -- `branch::least_tried` meets its contract. Assumes nothing.
 use borrow.Author.Rules.{rules}
-use borrow.Author.Tests.{not-true, not-false}
 use mathlib.Core.Path.{sym, ◌∙◌}
 use Rattle.branch.proofs.Branching.{least_on, least_off}
 use Rattle.branch.proofs.least_tried.Statement.{statement}
 use Rattle.branch.proofs.least_tried.Tie as tie
-use Rattle.branch.proofs.least_tried.Reads as reads
-use Rattle.branch.proofs.least_tried.Lts as lts
-use Rattle.bounds.proofs.least_size.Reads as least-size-reads
 
 has-requires : tie.Need-has-requires
 has-requires c κs = tt

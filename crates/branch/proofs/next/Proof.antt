@@ -13,9 +13,6 @@ use Rattle.branch.specs.Inner.Branching.{tried_from}
 use Rattle.branch.proofs.Branching.{next_skip, next_small, next_end, end_turn}
 use Rattle.branch.proofs.next.Statement.{statement}
 use Rattle.branch.proofs.next.Tie as tie
-use Rattle.branch.proofs.next.Reads as reads
-use Rattle.branch.proofs.next.Lts as lts
-use Rattle.state.proofs.scan.is_removable.Reads as is-removable-reads
 
 abbrev invariant-loop : tie.invariant-loop-i
 invariant-loop pairs from matches own all least i₀ i =

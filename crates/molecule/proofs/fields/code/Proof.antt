@@ -2,10 +2,6 @@
 use borrow.Author.Rules.{rules}
 use Rattle.molecule.proofs.fields.code.Statement.{statement}
 use Rattle.molecule.proofs.fields.code.Tie as tie
-use Rattle.molecule.proofs.fields.code.Reads as reads
-use Rattle.molecule.proofs.fields.code.Lts as lts
-use Rattle.molecule.proofs.fields.atoms.Reads as atoms-reads
-use Rattle.molecule.proofs.fields.bonds.Reads as bonds-reads
 
 atoms-requires : tie.Need-atoms-requires
 atoms-requires c κs = search rules

@@ -2,10 +2,6 @@
 use borrow.Author.Rules.{rules}
 use Rattle.molecule.proofs.fields.end_a.Statement.{statement}
 use Rattle.molecule.proofs.fields.end_a.Tie as tie
-use Rattle.molecule.proofs.fields.end_a.Reads as reads
-use Rattle.molecule.proofs.fields.end_a.Lts as lts
-use Rattle.molecule.proofs.fields.atoms.Reads as atoms-reads
-use Rattle.molecule.proofs.fields.wide.Reads as wide-reads
 
 atoms-requires : tie.Need-atoms-requires
 atoms-requires c κs = search rules

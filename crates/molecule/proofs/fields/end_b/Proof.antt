@@ -2,10 +2,6 @@
 use borrow.Author.Rules.{rules}
 use Rattle.molecule.proofs.fields.end_b.Statement.{statement}
 use Rattle.molecule.proofs.fields.end_b.Tie as tie
-use Rattle.molecule.proofs.fields.end_b.Reads as reads
-use Rattle.molecule.proofs.fields.end_b.Lts as lts
-use Rattle.molecule.proofs.fields.atoms.Reads as atoms-reads
-use Rattle.molecule.proofs.fields.wide.Reads as wide-reads
 
 atoms-requires : tie.Need-atoms-requires
 atoms-requires c κs = search rules

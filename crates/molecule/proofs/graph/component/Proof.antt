@@ -2,10 +2,6 @@
 use borrow.Author.Rules.{rules}
 use Rattle.molecule.proofs.graph.component.Statement.{statement}
 use Rattle.molecule.proofs.graph.component.Tie as tie
-use Rattle.molecule.proofs.graph.component.Reads as reads
-use Rattle.molecule.proofs.graph.component.Lts as lts
-use Rattle.bitset.proofs.single.Reads as single-Reads
-use Rattle.molecule.proofs.graph.reach.Reads as reach-reads
 
 single-requires : tie.Need-single-requires
 single-requires c κs = search rules

@@ -7,13 +7,6 @@ use Rattle.molecule.proofs.Words.{atoms_at}
 use borrow.Author.Rules.{rules}
 use Rattle.molecule.proofs.graph.edge_neighbors.Statement.{statement}
 use Rattle.molecule.proofs.graph.edge_neighbors.Tie as tie
-use Rattle.molecule.proofs.graph.edge_neighbors.Reads as reads
-use Rattle.molecule.proofs.graph.edge_neighbors.Lts as lts
-use Rattle.bitset.proofs.difference.Reads as difference-reads
-use Rattle.bitset.proofs.single.Reads as single-Reads
-use Rattle.bitset.proofs.union.Reads as union-reads
-use Rattle.molecule.proofs.fields.end_a.Reads as end-a-reads
-use Rattle.molecule.proofs.fields.end_b.Reads as end-b-reads
 
 -- both ends are among the 65 atom numbers
 few : (c : tie.After-end_b-v) → (c.end_a-u.result < 65) × (c.end_b-v.result < 65)

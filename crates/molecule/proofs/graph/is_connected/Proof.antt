@@ -4,10 +4,6 @@ use borrow.Author.Tests.{eq-eqb, ne_eqb}
 use Rattle.molecule.specs.Touch.{is_part}
 use Rattle.molecule.proofs.graph.is_connected.Statement.{statement}
 use Rattle.molecule.proofs.graph.is_connected.Tie as tie
-use Rattle.molecule.proofs.graph.is_connected.Reads as reads
-use Rattle.molecule.proofs.graph.is_connected.Lts as lts
-use Rattle.bitset.proofs.lowest.Reads as lowest-reads
-use Rattle.molecule.proofs.graph.component.Reads as component-reads
 
 returns-then-s-eq0 : tie.Need-returns-then-s-eq0
 unfolding is_part

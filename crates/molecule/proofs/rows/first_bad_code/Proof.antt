@@ -1,7 +1,7 @@
 -- `molecule::rows::first_bad_code` meets its contract. Assumes nothing.
 use borrow.Author.Rules.{rules}
 use mathlib.Core.Path.{refl, ◌∙◌}
-use Rattle.molecule.specs.Record.{atoms, bonds}
+use Rattle.molecule.specs.Record.{bonds}
 use Rattle.molecule.specs.Check.{bad_code}
 use Rattle.molecule.specs.Inner.Codes.{bad_beyond}
 use Rattle.molecule.proofs.Scans.{first_cong}

@@ -4,7 +4,7 @@ use mathlib.Core.Path.{◌≡◌, sym, ap, ◌∙◌}
 use Prim.Native.Nat.{◌-◌}
 use native.Mathlib.Omega.{arith}
 use Rattle.molecule.specs.Lists.{first}
-use Rattle.molecule.specs.Record.{atoms, bonds}
+use Rattle.molecule.specs.Record.{bonds}
 use Rattle.molecule.specs.Check.{bad_ends}
 use Rattle.molecule.proofs.Scans.{Scanned, scan_start, scan_on, scan_found, scan_none}
 use Rattle.molecule.proofs.rows.first_bad_ends.Statement.{statement}

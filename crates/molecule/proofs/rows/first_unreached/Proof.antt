@@ -13,7 +13,7 @@ use Rattle.bitset.proofs.Bools.{two}
 use Rattle.bitset.proofs.Members.{in_or_out}
 use Rattle.molecule.specs.Lists.{Bytes, first}
 use Rattle.molecule.specs.Record.{atoms, bonds, all_bonds}
-use Rattle.molecule.specs.Touch.{reach, bonds_at}
+use Rattle.molecule.specs.Touch.{bonds_at}
 use Rattle.molecule.specs.Check.{reached, unreached}
 use Rattle.molecule.specs.Tree.{Formed}
 use Rattle.molecule.proofs.Scans.{Scanned, scan_start, scan_on, scan_found, scan_none}

@@ -2,8 +2,6 @@
 use borrow.Author.Tests.{le-leb, lt-leb}
 use Rattle.molecule.proofs.rows.wrong_ends.Statement.{statement}
 use Rattle.molecule.proofs.rows.wrong_ends.Tie as tie
-use Rattle.molecule.proofs.rows.wrong_ends.Reads as reads
-use Rattle.molecule.proofs.rows.wrong_ends.Lts as lts
 
 returns-then-a-u : tie.Need-returns-then-a-u
 returns-then-a-u c = rw (le-leb _ _ c.if-a-u.true)

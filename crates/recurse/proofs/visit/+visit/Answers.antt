@@ -75,9 +75,14 @@ below-c-requires t c =
     let a = c.args in
     let R = c.requires in
     let k = c.loop-m.invariant in
-    let l : c.loop-m.m < length (pairs a.bytes.now) = omega (arith, c.loop-m-test.true, R.searched.count) in
-    (a.bytes.now, a.at.now, _, R.searched, R.entered,
-      chooses (c.branch_of-b.ensures a.bytes.now a.at.now R.searched R.entered) c.loop-m.m k.after l (k.turn.removes l))
+    let l : c.loop-m.m < length (pairs a.bytes.now) = omega (arith, c.loop-m-test.true, R.searched.count) in (
+      a.bytes.now,
+      a.at.now,
+      _,
+      R.searched,
+      R.entered,
+      chooses (c.branch_of-b.ensures a.bytes.now a.at.now R.searched R.entered) c.loop-m.m k.after l (k.turn.removes l),
+    )
 
 pub visit-g-requires : goal.visit-g-requires
 visit-g-requires t c =

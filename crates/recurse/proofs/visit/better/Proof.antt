@@ -2,8 +2,6 @@
 use borrow.Author.Tests.{lt-ltb, le-ltb}
 use Rattle.recurse.proofs.visit.better.Statement.{statement}
 use Rattle.recurse.proofs.visit.better.Tie as tie
-use Rattle.recurse.proofs.visit.better.Reads as reads
-use Rattle.recurse.proofs.visit.better.Lts as lts
 
 returns-then-child-found : tie.Need-returns-then-child-found
 returns-then-child-found c = rw (lt-ltb _ _ c.if-child-found.true)

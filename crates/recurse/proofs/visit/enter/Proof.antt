@@ -1,14 +1,12 @@
 -- `recurse::visit::enter` meets its contract: the budget, Int, and the memo in turn. Assumes nothing.
 use borrow.Author.Rules.{rules}
-use mathlib.Core.Path.{◌≡◌, refl, sym, subst, ◌∙◌}
+use mathlib.Core.Path.{◌≡◌, refl, sym, ◌∙◌}
 use native.Mathlib.Omega.{arith}
 use native.Mathlib.Numerals.{add-one}
 use lib.ListN.{length}
 use Rattle.matches.specs.Table.{pairs}
-use Rattle.search.specs.Setting.{memo_room}
 use Rattle.state.specs.Inner.Views.{state_of}
 use Rattle.branch.proofs.Branching.{part_zero, largest_few}
-use Rattle.recurse.specs.Inner.Follows.{Gated}
 use Rattle.recurse.proofs.Turns.{ends_spent, stops_int, goes_plain, gated_memo, fragments_of}
 use Rattle.recurse.proofs.visit.enter.Statement.{statement}
 use Rattle.recurse.proofs.visit.enter.Tie as tie

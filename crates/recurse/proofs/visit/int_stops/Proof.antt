@@ -1,6 +1,5 @@
 -- `recurse::visit::int_stops` meets its contract. Assumes nothing.
 use borrow.Author.Rules.{rules}
-use borrow.Author.Tests.{not-true, not-false}
 use mathlib.Core.Path.{◌≡◌, sym, ◌∙◌}
 use native.Mathlib.Omega.{arith}
 use lib.ListN.{length}
@@ -11,9 +10,6 @@ use Rattle.branch.proofs.Branching.{part_zero}
 use Rattle.recurse.proofs.Turns.{stops_off, stops_on}
 use Rattle.recurse.proofs.visit.int_stops.Statement.{statement}
 use Rattle.recurse.proofs.visit.int_stops.Tie as tie
-use Rattle.recurse.proofs.visit.int_stops.Reads as reads
-use Rattle.recurse.proofs.visit.int_stops.Lts as lts
-use Rattle.bounds.proofs.int_bound.Reads as int-bound-reads
 
 has-requires : tie.Need-has-requires
 has-requires c κs = tt
