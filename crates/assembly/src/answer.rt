@@ -2,7 +2,7 @@
 use molecule::Fault;
 
 // The index, the matches of the record, the states entered, and how many removals the trail has.
-#[derive(Drop)]
+#[derive(Clone, Copy)]
 pub struct Score {
     pub index: u32,
     pub matches: u64,
@@ -14,7 +14,7 @@ pub struct Score {
 // at which parts has no room.
 // 10: the matches there are, for which pairs has no room. 11: the budget, which the search would exceed. 12: the states entered when every entry of
 // the memo was used.
-#[derive(Drop)]
+#[derive(Clone, Copy)]
 pub enum Scored {
     Score(Score),
     Record(Fault),

@@ -14,7 +14,7 @@ use state::{State, scan};
 
 // What the removals of a state are tried from: for each bond the piece that has it, and all bonds in pieces; the pieces held, so many; the least
 // size tried; the number of the first removable match.
-#[derive(Drop)]
+#[derive(Clone, Copy)]
 pub struct Branch {
     pub own: [u64; 64],
     pub all: u64,

@@ -17,7 +17,7 @@ pub mod slate;
 mod strings;
 
 // What label answers: the label's length, or why the record, the set or the buffer is turned back.
-#[derive(Drop)]
+#[derive(Clone, Copy)]
 pub enum Labelled {
     Length(usize),
     Record(Fault),

@@ -16,7 +16,7 @@ use tabulate::count::Counted;
 
 // Document 01's number, 0 where there is no refusal, and its place, or for a label its length, for matches how many there are.
 #[repr(C)]
-#[derive(Drop)]
+#[derive(Clone, Copy)]
 pub struct Reply {
     pub number: u32,
     pub place: u64,
@@ -96,7 +96,7 @@ pub fn assembly_matches(bytes: &[u8], parts: &mut [u64], pairs: &mut [u64]) -> R
 // score's answer. Number 0: the index, the matches, the states entered, and how many removals the trail has; place is 0. Else the row and its place;
 // the other four are 0.
 #[repr(C)]
-#[derive(Drop)]
+#[derive(Clone, Copy)]
 pub struct ScoreReply {
     pub number: u32,
     pub index: u32,

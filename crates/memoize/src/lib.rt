@@ -15,7 +15,7 @@ ghost use Rattle.memoize.specs.Inner.Stored.{Sized, removals_at, EntryWords, Sto
 use desk::Known;
 
 // Whether the state goes on, with the number of entries then; is stopped; or finds every entry used.
-#[derive(Drop)]
+#[derive(Clone, Copy)]
 pub enum Asked {
     Goes(usize),
     Stopped,

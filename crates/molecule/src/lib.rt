@@ -20,7 +20,7 @@ pub enum Fault {
 }
 
 // What check answers.
-#[derive(Drop)]
+#[derive(Clone, Copy)]
 pub enum Verdict {
     Accepted,
     Refused(Fault),

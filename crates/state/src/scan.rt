@@ -73,7 +73,7 @@ pub fn is_removable(pairs: &[u64], m: usize, own: &[u64; 64], all: u64) -> bool
 }
 
 // The largest size of a removable match, 0 for none; and the number of the first, that of the matches where there is none.
-#[derive(Drop)]
+#[derive(Clone, Copy)]
 pub struct Scanned {
     pub largest: u32,
     pub first: usize,

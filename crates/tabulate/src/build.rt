@@ -13,7 +13,7 @@ use crate::{rounds, table};
 use molecule::{fields, graph};
 
 // What build answers: the matches there are; the size at which parts has no room; or the matches there are where pairs has no room for them.
-#[derive(Drop)]
+#[derive(Clone, Copy)]
 pub enum Built {
     Count(u64),
     Parts(u64),
@@ -21,7 +21,7 @@ pub enum Built {
 }
 
 // How the loop over sizes ends: at a size that has no room; or, where over is 0, with so many nodes and matches.
-#[derive(Drop)]
+#[derive(Clone, Copy)]
 struct End {
     over: u64,
     nodes: usize,

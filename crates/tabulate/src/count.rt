@@ -9,7 +9,7 @@ use molecule::{Fault, Verdict};
 
 // What count answers: the matches there are; why the record is turned back; the size at which parts has no room; or the matches there are where
 // pairs has no room for them.
-#[derive(Drop)]
+#[derive(Clone, Copy)]
 pub enum Counted {
     Count(u64),
     Record(Fault),
