@@ -1,5 +1,5 @@
 #![tactic(auto)]
-// The public calls as C functions: host/pazgelk.h declares them. A &[u8] is a pointer and then a length.
+// The public calls with the replies that cross to C: a number and a place, or what a score holds. The C functions are those of `capi_c`, which call these.
 ghost use Rattle.std.specs.Prelude.{◌≡◌, length};
 ghost use Rattle.molecule.specs.Check.{check, number, place};
 ghost use Rattle.molecule.specs.Verdict.{number_of, place_of};

@@ -3,7 +3,6 @@ use crate::hex::Bytes;
 use crate::words::Word;
 use crate::{Answer, hex, output, words};
 use molecule::Verdict;
-use std::io;
 
 // Answers the line, whose first word is the command.
 pub fn answer(
@@ -12,30 +11,24 @@ pub fn answer(
     command: Word,
     out: &mut [u8; 4096],
     at: usize,
-) -> io::Result<Answer> {
+) -> Answer {
     let word = words::next_word(line, command);
     if !words::is_last(line, word) {
-        return Ok(Answer::Unreadable);
+        return Answer::Unreadable;
     }
     let mut record = [0u8; 2048];
     let bytes = hex::record_bytes(words::text(line, word), &mut record);
     match bytes {
         Bytes::Count(n) => {
             let verdict = molecule::check(&record[0..n]);
-            let end = put_verdict(rt, out, at, verdict)?;
-            Ok(Answer::Put(end))
+            Answer::Put(put_verdict(rt, out, at, verdict))
         }
-        Bytes::Unreadable => Ok(Answer::Unreadable),
+        Bytes::Unreadable => Answer::Unreadable,
     }
 }
 
 // Puts `accepted` or `refused NUMBER PLACE`.
-fn put_verdict(
-    rt: &impl Print,
-    out: &mut [u8; 4096],
-    at: usize,
-    verdict: Verdict,
-) -> io::Result<usize> {
+fn put_verdict(rt: &impl Print, out: &mut [u8; 4096], at: usize, verdict: Verdict) -> usize {
     match verdict {
         Verdict::Accepted => output::put_text(rt, out, at, b"accepted"),
         Verdict::Refused(fault) => {

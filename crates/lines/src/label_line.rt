@@ -6,7 +6,6 @@ use crate::numbers::Number;
 use crate::words::Word;
 use crate::{Answer, hex, numbers, output, words};
 use canonize::Labelled;
-use std::io;
 
 // Answers the line, whose first word is the command.
 pub fn answer(
@@ -15,31 +14,30 @@ pub fn answer(
     command: Word,
     out: &mut [u8; 4096],
     at: usize,
-) -> io::Result<Answer> {
+) -> Answer {
     let first = words::next_word(line, command);
     let second = words::next_word(line, first);
     let third = words::next_word(line, second);
     if !words::is_last(line, third) {
-        return Ok(Answer::Unreadable);
+        return Answer::Unreadable;
     }
     let Number::Value(set) = numbers::hex_number(words::text(line, second)) else {
-        return Ok(Answer::Unreadable);
+        return Answer::Unreadable;
     };
     let Number::Value(room) = numbers::decimal_number(words::text(line, third)) else {
-        return Ok(Answer::Unreadable);
+        return Answer::Unreadable;
     };
     if 1024 < room {
-        return Ok(Answer::Unreadable);
+        return Answer::Unreadable;
     }
     let mut record = [0u8; 2048];
     let Bytes::Count(n) = hex::record_bytes(words::text(line, first), &mut record) else {
-        return Ok(Answer::Unreadable);
+        return Answer::Unreadable;
     };
     let mut space = [0u8; 1024];
     let buffer = &mut space[0..room as usize];
     let labelled = canonize::label(&record[0..n], set, buffer);
-    let end = put_labelled(rt, out, at, labelled, buffer)?;
-    Ok(Answer::Put(end))
+    Answer::Put(put_labelled(rt, out, at, labelled, buffer))
 }
 
 // Puts `label HEX` or `refused NUMBER PLACE`.
@@ -49,12 +47,12 @@ fn put_labelled(
     at: usize,
     labelled: Labelled,
     buffer: &[u8],
-) -> io::Result<usize>
+) -> usize
     requires { Inside buffer.now labelled }
 {
     match labelled {
         Labelled::Length(n) => {
-            let word = output::put_text(rt, out, at, b"label ")?;
+            let word = output::put_text(rt, out, at, b"label ");
             output::put_hex(rt, out, word, &buffer[0..n])
         }
         Labelled::Record(fault) => {

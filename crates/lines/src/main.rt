@@ -1,7 +1,6 @@
 #![tactic(auto)]
 // Reads a question a line, and answers each on a line.
 use canonize::compare;
-use std::io;
 use std::io::Read;
 
 mod check_line;
@@ -59,60 +58,40 @@ fn command_of(name: &[u8]) -> Command {
 }
 
 // Answers a line that the buffer holds, without its newline.
-fn answer_line(
-    rt: &impl Print,
-    line: &[u8],
-    out: &mut [u8; 4096],
-    at: usize,
-) -> io::Result<Answer> {
+fn answer_line(rt: &impl Print, line: &[u8], out: &mut [u8; 4096], at: usize) -> Answer {
     let word = words::word_at(line, 0);
     match command_of(words::text(line, word)) {
         Command::Check => check_line::answer(rt, line, word, out, at),
         Command::Label => label_line::answer(rt, line, word, out, at),
         Command::Matches => matches_line::answer(rt, line, word, out, at),
         Command::Score => score_line::answer(rt, line, word, out, at),
-        Command::Unknown => Ok(Answer::Unreadable),
+        Command::Unknown => Answer::Unreadable,
     }
 }
 
 // Puts `unreadable NUMBER`.
-fn put_unreadable(
-    rt: &impl Print,
-    out: &mut [u8; 4096],
-    at: usize,
-    number: u64,
-) -> io::Result<usize> {
-    let word = output::put_text(rt, out, at, b"unreadable ")?;
+fn put_unreadable(rt: &impl Print, out: &mut [u8; 4096], at: usize, number: u64) -> usize {
+    let word = output::put_text(rt, out, at, b"unreadable ");
     output::put_decimal(rt, out, word, number)
 }
 
 // Answers the line that has ended.
-fn answer_ended(
-    rt: &impl Print,
-    state: State,
-    line: &[u8; 4096],
-    out: &mut [u8; 4096],
-) -> io::Result<Answer> {
+fn answer_ended(rt: &impl Print, state: State, line: &[u8; 4096], out: &mut [u8; 4096]) -> Answer {
     let length = state.length;
     let at = state.put;
     if 4096 < length {
-        return Ok(Answer::Unreadable);
+        return Answer::Unreadable;
     }
     let bytes: &[u8] = line;
     answer_line(rt, &bytes[0..length], out, at)
 }
 
 // Puts the answer of the line that has ended, with its newline.
-fn put_answer(
-    rt: &impl Print,
-    state: State,
-    line: &[u8; 4096],
-    out: &mut [u8; 4096],
-) -> io::Result<usize> {
-    match answer_ended(rt, state, line, out)? {
+fn put_answer(rt: &impl Print, state: State, line: &[u8; 4096], out: &mut [u8; 4096]) -> usize {
+    match answer_ended(rt, state, line, out) {
         Answer::Put(end) => output::put(rt, out, end, b'\n'),
         Answer::Unreadable => {
-            let end = put_unreadable(rt, out, state.put, state.number)?;
+            let end = put_unreadable(rt, out, state.put, state.number);
             output::put(rt, out, end, b'\n')
         }
     }
@@ -125,29 +104,29 @@ fn take(
     state: State,
     line: &mut [u8; 4096],
     out: &mut [u8; 4096],
-) -> io::Result<State> {
+) -> State {
     let length = state.length;
     if b == b'\n' {
-        let put = put_answer(rt, state, line, out)?;
-        return Ok(State {
+        let put = put_answer(rt, state, line, out);
+        return State {
             number: state.number.wrapping_add(1),
             length: 0,
             put,
-        });
+        };
     }
     if length < 4096 {
         line[length] = b;
-        return Ok(State {
+        return State {
             number: state.number,
             length: length + 1,
             put: state.put,
-        });
+        };
     }
-    Ok(State {
+    State {
         number: state.number,
         length: 4097,
         put: state.put,
-    })
+    }
 }
 
 // Takes a chunk in.
@@ -157,14 +136,14 @@ fn take_all(
     before: State,
     line: &mut [u8; 4096],
     out: &mut [u8; 4096],
-) -> io::Result<State> {
+) -> State {
     let mut state = before;
     let mut i = 0;
     while i < chunk.len() {
-        state = take(rt, chunk[i], state, line, out)?;
+        state = take(rt, chunk[i], state, line, out);
         i += 1;
     }
-    Ok(state)
+    state
 }
 
 // Takes a chunk in, and writes the answers.
@@ -174,23 +153,23 @@ fn answer_chunk(
     before: State,
     line: &mut [u8; 4096],
     out: &mut [u8; 4096],
-) -> io::Result<State> {
-    let state = take_all(rt, chunk, before, line, out)?;
-    output::flush(rt, out, state.put)?;
-    Ok(State {
+) -> State {
+    let state = take_all(rt, chunk, before, line, out);
+    output::flush(rt, out, state.put);
+    State {
         number: state.number,
         length: state.length,
         put: 0,
-    })
+    }
 }
 
-// Reads chunk by chunk to the end of the input.
+// Reads chunk by chunk to the end of the input, or to a read that fails.
 fn answer_all(
     rt: &(impl Print + Input),
     chunk: &mut [u8; 65536],
     line: &mut [u8; 4096],
     out: &mut [u8; 4096],
-) -> io::Result<State> {
+) -> State {
     let mut state = State {
         number: 1,
         length: 0,
@@ -198,25 +177,26 @@ fn answer_all(
     };
     let mut reader = rt.reader();
     for _ in 0..u64::MAX {
-        let n = reader.read(chunk)?;
+        let Ok(n) = reader.read(chunk) else {
+            return state;
+        };
         if n == 0 {
-            return Ok(state);
+            return state;
         }
         let bytes: &[u8] = chunk;
-        state = answer_chunk(rt, &bytes[0..n], state, line, out)?;
+        state = answer_chunk(rt, &bytes[0..n], state, line, out);
     }
-    Ok(state)
+    state
 }
 
-fn main(rt: HostRuntime) -> io::Result<()> {
+fn main(rt: HostRuntime) {
     let mut chunk = [0u8; 65536];
     let mut line = [0u8; 4096];
     let mut out = [0u8; 4096];
-    let state = answer_all(&rt, &mut chunk, &mut line, &mut out)?;
+    let state = answer_all(&rt, &mut chunk, &mut line, &mut out);
     // A last line with no newline.
     if 0 < state.length {
-        let put = put_answer(&rt, state, &line, &mut out)?;
-        output::flush(&rt, &out, put)?;
+        let put = put_answer(&rt, state, &line, &mut out);
+        output::flush(&rt, &out, put);
     }
-    Ok(())
 }

@@ -7,7 +7,6 @@ use crate::hex::Bytes;
 use crate::numbers::Number;
 use crate::words::Word;
 use crate::{Answer, hex, noise, numbers, output, words};
-use std::io;
 use tabulate::count;
 use tabulate::count::Counted;
 
@@ -25,18 +24,17 @@ pub fn answer(
     command: Word,
     out: &mut [u8; 4096],
     at: usize,
-) -> io::Result<Answer> {
+) -> Answer {
     let first = words::next_word(line, command);
     let Lengths::Words(parts, pairs) = table_lengths(line, first) else {
-        return Ok(Answer::Unreadable);
+        return Answer::Unreadable;
     };
     let mut record = [0u8; 2048];
     let Bytes::Count(n) = hex::record_bytes(words::text(line, first), &mut record) else {
-        return Ok(Answer::Unreadable);
+        return Answer::Unreadable;
     };
     let counted = count_with(&record[0..n], parts, pairs);
-    let end = put_counted(rt, out, at, counted)?;
-    Ok(Answer::Put(end))
+    Answer::Put(put_counted(rt, out, at, counted))
 }
 
 // The lengths that stand after the record's word: both, or none, and then each is 65536.
@@ -80,15 +78,10 @@ fn count_with(bytes: &[u8], parts: usize, pairs: usize) -> Counted
 }
 
 // Puts `matches NUMBER` or `refused NUMBER PLACE`.
-fn put_counted(
-    rt: &impl Print,
-    out: &mut [u8; 4096],
-    at: usize,
-    counted: Counted,
-) -> io::Result<usize> {
+fn put_counted(rt: &impl Print, out: &mut [u8; 4096], at: usize, counted: Counted) -> usize {
     match counted {
         Counted::Count(n) => {
-            let word = output::put_text(rt, out, at, b"matches ")?;
+            let word = output::put_text(rt, out, at, b"matches ");
             output::put_decimal(rt, out, word, n)
         }
         Counted::Record(fault) => {

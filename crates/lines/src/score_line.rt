@@ -8,7 +8,6 @@ use crate::words::Word;
 use crate::{Answer, hex, noise, numbers, output, words};
 use assembly::answer::{Score, Scored};
 use assembly::{Setting, score};
-use std::io;
 
 // How many elements the trail and each table have.
 #[derive(Clone, Copy)]
@@ -41,7 +40,7 @@ pub fn answer(
     command: Word,
     out: &mut [u8; 4096],
     at: usize,
-) -> io::Result<Answer> {
+) -> Answer {
     let first = words::next_word(line, command);
     let bounds = words::next_word(line, first);
     let memo = words::next_word(line, bounds);
@@ -51,17 +50,16 @@ pub fn answer(
         words::text(line, memo),
         words::text(line, budget),
     ) else {
-        return Ok(Answer::Unreadable);
+        return Answer::Unreadable;
     };
     let Room::Lengths(lent) = lengths(line, budget) else {
-        return Ok(Answer::Unreadable);
+        return Answer::Unreadable;
     };
     let mut record = [0u8; 2048];
     let Bytes::Count(n) = hex::record_bytes(words::text(line, first), &mut record) else {
-        return Ok(Answer::Unreadable);
+        return Answer::Unreadable;
     };
-    let end = put_score(rt, &record[0..n], setting, lent, out, at)?;
-    Ok(Answer::Put(end))
+    Answer::Put(put_score(rt, &record[0..n], setting, lent, out, at))
 }
 
 // Each of the three a number in decimal below 2 to the power 32.
@@ -153,7 +151,7 @@ fn put_score(
     lent: Lent,
     out: &mut [u8; 4096],
     at: usize,
-) -> io::Result<usize>
+) -> usize
     requires { FitsSpace lent }
 {
     let mut space = [0u32; 40];
@@ -186,7 +184,7 @@ fn put_scored(
     at: usize,
     scored: Scored,
     trail: &[u32],
-) -> io::Result<usize> {
+) -> usize {
     match scored {
         Scored::Score(s) => put_held(rt, out, at, s, trail),
         Scored::Record(fault) => {
@@ -204,26 +202,20 @@ fn put_scored(
 }
 
 // Puts what a score holds, and its removals: the first numbers of the trail.
-fn put_held(
-    rt: &impl Print,
-    out: &mut [u8; 4096],
-    at: usize,
-    s: Score,
-    trail: &[u32],
-) -> io::Result<usize> {
-    let word = output::put_text(rt, out, at, b"scored")?;
-    let index = output::put_short(rt, out, word, s.index)?;
-    let matches = output::put_number(rt, out, index, s.matches)?;
-    let states = output::put_short(rt, out, matches, s.states)?;
+fn put_held(rt: &impl Print, out: &mut [u8; 4096], at: usize, s: Score, trail: &[u32]) -> usize {
+    let word = output::put_text(rt, out, at, b"scored");
+    let index = output::put_short(rt, out, word, s.index);
+    let matches = output::put_number(rt, out, index, s.matches);
+    let states = output::put_short(rt, out, matches, s.states);
     let k = s.length as usize;
-    let mut end = output::put_short(rt, out, states, s.length)?;
+    let mut end = output::put_short(rt, out, states, s.length);
     let mut i = 0;
     while i < trail.len() {
         if k <= i {
-            return Ok(end);
+            return end;
         }
-        end = output::put_short(rt, out, end, trail[i])?;
+        end = output::put_short(rt, out, end, trail[i]);
         i += 1;
     }
-    Ok(end)
+    end
 }
