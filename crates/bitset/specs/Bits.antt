@@ -1,7 +1,7 @@
 -- A set of numbers is the number whose digit i is set where i is a member. Membership is a number, 0 or 1, so that `omega` reasons about it.
 -- Intersection is `bit_and` and union `bit_or` of `lib.Bits`, the set of i alone is `2 ^ i`, and the empty set is 0.
 -- Every definition computes on a numeral of any size.
-use Rattle.std.specs.Prelude.{◌≡◌, Bool, true, false, ℕ, zero, suc, ◌+◌, ◌-◌, ◌/◌, ◌%◌, ◌^◌, ◌<◌, eqb}
+use Rattle.std.specs.Prelude.{◌≡◌, Bool, true, false, Option, None, Some, ℕ, zero, suc, ◌+◌, ◌-◌, ◌/◌, ◌%◌, ◌^◌, ◌<◌, eqb}
 use mathlib.Core.List.{List, [], ◌∷◌, Memᴰ}
 use Rattle.std.specs.Int.Bits.{bit_and, bit_or}
 use Rattle.std.specs.Int.Count.{count_trailing_zeros}
@@ -73,6 +73,11 @@ pub record WithoutLowest (s r : ℕ) : Type 0 where
   pub is : r ≡ diff s (2 ^ low s)
   pub fewer : size r + 1 ≡ size s
   pub below : r < s
+
+-- the next of a set's members, and the members left: none where it is empty, and else its least
+abbrev pub NextMember : ℕ → Option ℕ → ℕ → Type 0
+NextMember s None t = (s ≡ 0) × (t ≡ 0)
+NextMember s (Some i) t = (0 < s) × Lowest s i × WithoutLowest s t
 
 -- the set of the numbers below n that pass the test
 unfoldable pub set_of : (ℕ → Bool) → ℕ → ℕ

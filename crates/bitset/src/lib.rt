@@ -3,7 +3,8 @@
 // specs/Bits.antt, and proofs/Laws.antt and proofs/Members.antt have their laws.
 ghost use Rattle.std.specs.Prelude.{◌≡◌, ◌-◌, ◌^◌, ◌≤◌, ◌<◌};
 ghost use Rattle.std.specs.Int.Bits.{bit_and, bit_or};
-ghost use Rattle.bitset.specs.Bits.{has, diff, size, is_sub, is_disjoint, Lowest, WithoutLowest};
+ghost use Rattle.std.specs.Iterator.{at_most};
+ghost use Rattle.bitset.specs.Bits.{has, diff, size, is_sub, is_disjoint, Lowest, WithoutLowest, NextMember};
 
 pub fn contains(s: u64, i: u32) -> bool
     requires { i < 64 }
@@ -75,6 +76,35 @@ pub fn without_lowest(s: u64) -> u64
     ensures { WithoutLowest s result }
 {
     s & (s - 1)
+}
+
+// The members of a set, ascending: those of rest are still to come.
+#[derive(Drop)]
+pub struct Iter {
+    pub rest: u64,
+}
+
+pub fn ascending(s: u64) -> Iter
+    ensures { result.rest ≡ s }
+{
+    Iter { rest: s }
+}
+
+impl Iterator for Iter {
+    type Item = u32;
+
+    ghost next_gives = { λ s i t. NextMember s.rest i t.rest };
+
+    ghost remaining = { λ s. at_most (size s.rest) };
+
+    fn next(&mut self) -> Option<u32> {
+        let s = self.rest;
+        if s == 0 {
+            return None;
+        }
+        self.rest = without_lowest(s);
+        Some(lowest(s))
+    }
 }
 
 // The numbers below n.
