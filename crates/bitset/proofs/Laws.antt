@@ -16,7 +16,8 @@ use borrow.Author.Tests.{ne_eqb}
 use lib.Dec.{lit<, eqb}
 use lib.Count.{ones, ones_step, ones-ones, ones-le, count_trailing_zeros, under}
 use lib.ListN.{length}
-use Rattle.bitset.specs.Bits.{bit, has, Sub, Disjoint, diff, size_in, size, front, members_in, members_from, members, low, unions, Ascending, Lowest, WithoutLowest}
+use Rattle.std.specs.Prelude.{Some}
+use Rattle.bitset.specs.Bits.{bit, has, Sub, Disjoint, diff, size_in, size, front, members_in, members_from, members, low, unions, Ascending, Lowest, WithoutLowest, NextMember}
 
 -- ---- a digit: the lowest, and the next
 
@@ -446,6 +447,10 @@ unions_low f s p h = rw (members_low 64 0 s p h, zero-add (low s))
 -- what the loop meets next, and then: any function of the members takes a turn by `ap` of this
 pub members_turn : (s i t : ℕ) → 0 < s → s < 2 ^ 64 → Lowest s i → WithoutLowest s t → members s ≡ i ∷ members t
 members_turn s i t p h l w = rw (members_low 64 0 s p h, zero-add (low s), l.is, w.is)
+
+-- the members by the iterator over them: its next, and then the others
+pub next_members : (s i t : ℕ) → NextMember s (Some i) t → members s ≡ i ∷ members t
+next_members s i t n = members_turn s i t n.0 n.1 n.2 n.3
 
 pub members_first : (s i : ℕ) → 0 < s → s < 2 ^ 64 → Lowest s i → members s ≡ i ∷ members (bit_and s (s - 1))
 members_first s i p h l = members_turn s i (bit_and s (s - 1)) p h l (without_lowest_lem s p h)

@@ -77,7 +77,7 @@ pub record WithoutLowest (s r : ℕ) : Type 0 where
 -- the next of a set's members, and the members left: none where it is empty, and else its least
 abbrev pub NextMember : ℕ → Option ℕ → ℕ → Type 0
 NextMember s None t = (s ≡ 0) × (t ≡ 0)
-NextMember s (Some i) t = (0 < s) × Lowest s i × WithoutLowest s t
+NextMember s (Some i) t = (0 < s) × (s < 2 ^ 64) × Lowest s i × WithoutLowest s t
 
 -- the set of the numbers below n that pass the test
 unfoldable pub set_of : (ℕ → Bool) → ℕ → ℕ
