@@ -1,5 +1,5 @@
 #![tactic(auto)]
-// Lent words and numbers left with zeros.
+// Lent words left with zeros.
 ghost use Rattle.std.specs.Prelude.{◌≡◌, ◌≤◌, length, replicate};
 ghost use Rattle.clear.specs.Inner.Part.{zero_part};
 
@@ -7,11 +7,7 @@ ghost use Rattle.clear.specs.Inner.Part.{zero_part};
 pub fn zero(words: &mut [u64])
     ensures { words.new ≡ replicate (length words.old) 0 }
 {
-    let mut i = 0;
-    while i < words.len() {
-        words[i] = 0;
-        i += 1;
-    }
+    words.fill(0);
 }
 
 // The words from .. to become 0.
@@ -20,15 +16,4 @@ pub fn zero_part(words: &mut [u64], from: usize, to: usize)
     ensures { words.new ≡ zero_part words.old from to }
 {
     zero(&mut words[from..to]);
-}
-
-// Every number becomes 0.
-pub fn zero_numbers(numbers: &mut [u32])
-    ensures { numbers.new ≡ replicate (length numbers.old) 0 }
-{
-    let mut i = 0;
-    while i < numbers.len() {
-        numbers[i] = 0;
-        i += 1;
-    }
 }
