@@ -2,7 +2,7 @@
 use crate::hex::Bytes;
 use crate::words::Word;
 use crate::{Answer, hex, output, words};
-use molecule::Verdict;
+use molecule::{Fault, Refusal};
 
 // Answers the line, whose first word is the command.
 pub fn answer(
@@ -28,12 +28,17 @@ pub fn answer(
 }
 
 // Puts `accepted` or `refused NUMBER PLACE`.
-fn put_verdict(rt: &impl Print, out: &mut [u8; 4096], at: usize, verdict: Verdict) -> usize {
+fn put_verdict(
+    rt: &impl Print,
+    out: &mut [u8; 4096],
+    at: usize,
+    verdict: Result<(), Fault>,
+) -> usize {
     match verdict {
-        Verdict::Accepted => output::put_text(rt, out, at, b"accepted"),
-        Verdict::Refused(fault) => {
-            let number = molecule::number(fault) as u64;
-            let place = molecule::place(fault);
+        Ok(()) => output::put_text(rt, out, at, b"accepted"),
+        Err(fault) => {
+            let number = u64::from(fault.number());
+            let place = fault.place();
             output::put_refused(rt, out, at, number, place)
         }
     }

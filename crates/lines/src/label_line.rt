@@ -6,6 +6,7 @@ use crate::numbers::Number;
 use crate::words::Word;
 use crate::{Answer, hex, numbers, output, words};
 use canonize::Labelled;
+use molecule::Refusal;
 
 // Answers the line, whose first word is the command.
 pub fn answer(
@@ -56,8 +57,8 @@ fn put_labelled(
             output::put_hex(rt, out, word, &buffer[0..n])
         }
         Labelled::Record(fault) => {
-            let number = molecule::number(fault) as u64;
-            let place = molecule::place(fault);
+            let number = u64::from(fault.number());
+            let place = fault.place();
             output::put_refused(rt, out, at, number, place)
         }
         Labelled::Set => output::put_refused(rt, out, at, 13, 0),

@@ -7,6 +7,7 @@ use crate::hex::Bytes;
 use crate::numbers::Number;
 use crate::words::Word;
 use crate::{Answer, hex, noise, numbers, output, words};
+use molecule::Refusal;
 use tabulate::count;
 use tabulate::count::Counted;
 
@@ -85,8 +86,8 @@ fn put_counted(rt: &impl Print, out: &mut [u8; 4096], at: usize, counted: Counte
             output::put_decimal(rt, out, word, n)
         }
         Counted::Record(fault) => {
-            let number = molecule::number(fault) as u64;
-            let place = molecule::place(fault);
+            let number = u64::from(fault.number());
+            let place = fault.place();
             output::put_refused(rt, out, at, number, place)
         }
         Counted::Parts(size) => output::put_refused(rt, out, at, 9, size),

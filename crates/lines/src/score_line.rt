@@ -8,6 +8,7 @@ use crate::words::Word;
 use crate::{Answer, hex, noise, numbers, output, words};
 use assembly::answer::{Score, Scored};
 use assembly::{Setting, score};
+use molecule::Refusal;
 
 // How many elements the trail and each table have.
 #[derive(Clone, Copy)]
@@ -188,8 +189,8 @@ fn put_scored(
     match scored {
         Scored::Score(s) => put_held(rt, out, at, s, trail),
         Scored::Record(fault) => {
-            let number = molecule::number(fault) as u64;
-            let place = molecule::place(fault);
+            let number = u64::from(fault.number());
+            let place = fault.place();
             output::put_refused(rt, out, at, number, place)
         }
         Scored::Setting => output::put_refused(rt, out, at, 7, 0),
