@@ -5,9 +5,13 @@ ghost use Rattle.molecule.specs.Tree.{RightCounts};
 ghost use Rattle.molecule.specs.Check.{check};
 ghost use Rattle.molecule.specs.Verdict.{answer_of};
 
+
 pub mod fields;
 pub mod graph;
 mod rows;
+mod tree;
+
+pub use tree::Molecule;
 
 // Why something is turned back, in document 01's terms.
 pub trait Refusal: Copy {
