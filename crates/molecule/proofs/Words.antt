@@ -94,17 +94,6 @@ module _ (r : Bytes) where
   pub bonds_start : BondsUpTo 0 (replicate 64 0)
   bonds_start = record { long = refl; each = λ j h. absurd (omega arith); rest = λ j h. zeros_at 64 j }
 
-  pub bonds_next : (i : ℕ) (l : List ℕ) (x : ℕ) → BondsUpTo i l → i < 64 → x ≡ touching r i → BondsUpTo (i + 1) (set l i x)
-  bonds_next i l x w h e = record {
-    long = length-set l i x ∙ w.long;
-    each = λ j k. go j k (ℕ_discrete j i);
-    rest = λ j k. get_or-set_other l i j x 0 (λ q. omega arith) ∙ w.rest j (omega arith);
-  }
-    where
-      go : (j : ℕ) → j < i + 1 → Dec (j ≡ i) → get_or (set l i x) j 0 ≡ touching r j
-      go j k (yes q) = rw q (get_or-set_same l i x 0 (omega (arith, w.long)) ∙ e)
-      go j k (no q) = get_or-set_other l i j x 0 q ∙ w.each j (omega arith)
-
   pub bonds_are : (l : List ℕ) → BondsUpTo (bonds r) l → l ≡ touching_words r
   unfolding touching_words
   bonds_are l w = ext_get_or 0 l (touching_words r) (w.long ∙ sym (length_list _ 0 64)) (λ i k. go i (omega (arith, w.long)) (two (ltb i (bonds r))))
