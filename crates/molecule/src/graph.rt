@@ -60,6 +60,7 @@ fn next_to(touch: &[u64; 64], s: u64) -> u64
 }
 
 // The bonds outside s that are next to a bond of s.
+#[tactic(auto, unfolding(crate::specs::Touch::around))]
 pub fn around(touch: &[u64; 64], s: u64) -> u64
     ensures { result ≡ around (λ (i : ℕ). get_or touch.now i 0) s }
 {
@@ -102,6 +103,7 @@ pub fn component(touch: &[u64; 64], s: u64, b: u32) -> u64
 }
 
 // Whether s is connected: not empty, and one component.
+#[tactic(auto, using(std::proofs::lemmas::Bool::Decides::nat_tests), unfolding(crate::specs::Touch::is_part))]
 pub fn is_connected(touch: &[u64; 64], s: u64) -> bool
     ensures { result ≡ is_part (λ (i : ℕ). get_or touch.now i 0) s }
 {
