@@ -318,9 +318,6 @@ module _ (r : Bytes) where
   pub pair_size : (b c : ℕ) → c ≢ b → size (bit_or (2 ^ b) (2 ^ c)) ≡ 2
   pair_size b c n = size_disjoint (2 ^ b) (2 ^ c) (apart_of (2 ^ b) (2 ^ c) (λ i h k. n (sym (one_is c i k) ∙ one_is b i h))) ∙ omega (arith, size_one b, size_one c)
 
-  pub pair_own : (b c : ℕ) → b < bonds r → c < bonds r → Own r (bit_or (2 ^ b) (2 ^ c))
-  pair_own b c hb hc = or_lt (bonds r) (2 ^ b) (2 ^ c) (pow-lt hb) (pow-lt hc)
-
   pub pair_connected : (b c : ℕ) → b < bonds r → Touch r b c → Connected r (bit_or (2 ^ b) (2 ^ c))
   pair_connected b c l t = record {
     some = not_empty (bit_or (2 ^ b) (2 ^ c)) b hb;

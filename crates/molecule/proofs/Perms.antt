@@ -161,12 +161,6 @@ map_distinct f d (m_tail m) (m_head h) q = absurd (d.0 (mem_cast (sym (ap f h) �
 map_distinct f d (m_tail m) (m_tail n) q = map_distinct f d.1 m n q
 
 module _ {A : Type 0} (p : A → Bool) where
-  pub keep_yes : (x : A) (l : List A) → p x ≡ true → filter p (x ∷ l) ≡ x ∷ filter p l
-  keep_yes x l e = rw e
-
-  pub keep_no : (x : A) (l : List A) → p x ≡ false → filter p (x ∷ l) ≡ filter p l
-  keep_no x l e = rw e
-
   pub keep_perm : {k l : List A} → Perm k l → Perm (filter p k) (filter p l)
   keep_perm p_nil = p_nil
   keep_perm (p_cons {a = a} {b = b} {l₁ = k} {l₂ = l} e d) = go (two (p a)) (keep_perm d)

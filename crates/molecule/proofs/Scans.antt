@@ -1,9 +1,9 @@
--- Scans: what the first number that passes a test is, and how a loop comes to it. Whatever the test is. Assumes nothing.
+-- Scans: what the first number that passes a test is, and what a turn of a loop to it shows. Whatever the test is. Assumes nothing.
 use mathlib.Core.Path.{◌≡◌, refl, sym, ap, ap₂, ◌∙◌, subst}
 use mathlib.Core.Logic.{◌⊎◌, inl, inr}
 use mathlib.Core.Bool.{Bool, true, false, true≢false}
 use Prim.Native.Nat.{ℕ, zero, suc, ◌+◌, ◌-◌, ◌≤◌, ◌<◌}
-use native.Mathlib.Nat.{sub_self, sub-zero, zero-add}
+use native.Mathlib.Nat.{zero-add}
 use native.Mathlib.Omega.{arith}
 use native.Mathlib.Decide.{dec_lt, ℕ_discrete}
 use Rattle.bitset.proofs.Bools.{two}
@@ -17,7 +17,7 @@ record Found (p : ℕ → Bool) (k n x : ℕ) : Type 0 where
   before : (i : ℕ) → k ≤ i → i < x → p i ≡ false
 
 module _ (p : ℕ → Bool) where
-  -- ---- a loop's turns
+  -- ---- a turn at i, of a scan of the numbers below n
 
   pub scan_hit : (i n : ℕ) → i < n → p i ≡ true → first_from p i (n - i) ≡ i
   unfolding first_from
@@ -29,26 +29,6 @@ module _ (p : ℕ → Bool) where
       let s : n - i ≡ suc (n - (i + 1)) = omega arith in
       let t : i + 1 ≡ suc i = omega arith in
       rw (s, first_from, e, t)
-
-  pub scan_done : (n : ℕ) → first_from p n (n - n) ≡ n
-  unfolding first_from
-  scan_done n = rw (sub_self n)
-
-  -- a scan of the numbers below n that stands at i: what is left to scan gives the whole scan's answer
-  abbrev pub Scanned : ℕ → ℕ → Type 0
-  Scanned n i = (i ≤ n) × (first_from p i (n - i) ≡ first p n)
-
-  pub scan_start : (n : ℕ) → Scanned n 0
-  scan_start n = (omega arith, ap (first_from p 0) (sub-zero n))
-
-  pub scan_on : (n i : ℕ) → Scanned n i → (i ≡ n → ⊥) → p i ≡ false → Scanned n (i + 1)
-  scan_on n i s l e = (omega arith, sym (scan_next i n (omega arith) e) ∙ s.1)
-
-  pub scan_found : (n i : ℕ) → Scanned n i → (i ≡ n → ⊥) → p i ≡ true → i ≡ first p n
-  scan_found n i s l e = sym (scan_hit i n (omega arith) e) ∙ s.1
-
-  pub scan_none : (n i : ℕ) → Scanned n i → i ≡ n → n ≡ first p n
-  scan_none n i s e = sym (scan_done n) ∙ ap (λ (k : ℕ). first_from p k (n - k)) (sym e) ∙ s.1
 
   -- ---- the result
 
@@ -100,16 +80,13 @@ module _ (p : ℕ → Bool) where
       go (yes a) = absurd (true≢false (sym (first_hit n a) ∙ h (first p n) a))
       go (no a) = omega arith
 
--- tests that agree below n find the same
+-- tests that agree on f numbers from k on find the same
 pub from_cong : (p q : ℕ → Bool) (k f : ℕ) → ((i : ℕ) → k ≤ i → i < k + f → p i ≡ q i) → first_from p k f ≡ first_from q k f
 unfolding first_from
 from_cong p q k zero h = refl
 from_cong p q k (suc f) h =
     ap₂ (λ (b : Bool) (x : ℕ). elim b as (λ _. ℕ) [ true ↦ k | false ↦ x ]) (h k (omega arith) (omega arith))
     (from_cong p q (suc k) f (λ i a b. h i (omega arith) (omega arith)))
-
-pub first_cong : (p q : ℕ → Bool) (n : ℕ) → ((i : ℕ) → i < n → p i ≡ q i) → first p n ≡ first q n
-first_cong p q n h = from_cong p q 0 n (λ i a b. h i (omega arith))
 
 -- from k on: of no numbers none passes, and none before the first that passes does
 pub from_none : (p : ℕ → Bool) (k : ℕ) → first_from p k 0 ≡ k

@@ -14,16 +14,12 @@ pub fn bonds_at(bytes: &[u8]) -> [u64; 65]
     requires { Formed bytes.now }
     ensures { result ≡ bonds_at_words bytes.now }
 {
-    let n = fields::bonds(bytes);
     let mut at = [0u64; 65];
-    let mut i = 0;
-    while i < n {
-        let u = fields::end_a(bytes, i);
-        let v = fields::end_b(bytes, i);
+    for i in 0..fields::bonds(bytes) {
+        let (u, v) = fields::ends(bytes, i);
         let b = bitset::single(i as u32);
         at[u] = bitset::union(at[u], b);
         at[v] = bitset::union(at[v], b);
-        i += 1;
     }
     at
 }
@@ -33,8 +29,7 @@ pub fn edge_neighbors(bytes: &[u8], at: &[u64; 65], i: usize) -> u64
     requires { Formed bytes.now × (at.now ≡ bonds_at_words bytes.now) × (i < bonds bytes.now) }
     ensures { result ≡ touching bytes.now i }
 {
-    let u = fields::end_a(bytes, i);
-    let v = fields::end_b(bytes, i);
+    let (u, v) = fields::ends(bytes, i);
     bitset::difference(bitset::union(at[u], at[v]), bitset::single(i as u32))
 }
 
@@ -43,12 +38,9 @@ pub fn touching_from(bytes: &[u8], at: &[u64; 65]) -> [u64; 64]
     requires { Formed bytes.now × (at.now ≡ bonds_at_words bytes.now) }
     ensures { result ≡ touching_words bytes.now }
 {
-    let n = fields::bonds(bytes);
     let mut touch = [0u64; 64];
-    let mut i = 0;
-    while i < n {
+    for i in 0..fields::bonds(bytes) {
         touch[i] = edge_neighbors(bytes, at, i);
-        i += 1;
     }
     touch
 }
@@ -68,6 +60,7 @@ fn next_to(touch: &[u64; 64], s: u64) -> u64
 }
 
 // The bonds outside s that are next to a bond of s.
+#[tactic(auto, unfolding(crate::specs::Touch::around))]
 pub fn around(touch: &[u64; 64], s: u64) -> u64
     ensures { result ≡ around (λ (i : ℕ). get_or touch.now i 0) s }
 {
@@ -110,6 +103,7 @@ pub fn component(touch: &[u64; 64], s: u64, b: u32) -> u64
 }
 
 // Whether s is connected: not empty, and one component.
+#[tactic(auto, using(std::proofs::lemmas::Bool::Decides::nat_tests), unfolding(crate::specs::Touch::is_part))]
 pub fn is_connected(touch: &[u64; 64], s: u64) -> bool
     ensures { result ≡ is_part (λ (i : ℕ). get_or touch.now i 0) s }
 {

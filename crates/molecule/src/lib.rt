@@ -94,23 +94,17 @@ pub fn check(bytes: &[u8]) -> Result<(), Fault>
     ensures { answer_of result ≡ check bytes.now }
 {
     check_counts(bytes)?;
-    let a = fields::atoms(bytes);
-    let n = fields::bonds(bytes);
-    let element = rows::first_bad_element(bytes);
-    if element < a {
-        return Err(Fault::Element(element));
+    if let Some(v) = rows::first_bad_element(bytes) {
+        return Err(Fault::Element(v));
     }
-    let code = rows::first_bad_code(bytes);
-    if code < n {
-        return Err(Fault::Code(code));
+    if let Some(i) = rows::first_bad_code(bytes) {
+        return Err(Fault::Code(i));
     }
-    let ends = rows::first_bad_ends(bytes);
-    if ends < n {
-        return Err(Fault::Ends(ends));
+    if let Some(i) = rows::first_bad_ends(bytes) {
+        return Err(Fault::Ends(i));
     }
-    let unreached = rows::first_unreached(bytes);
-    if unreached < a {
-        return Err(Fault::Unreached(unreached));
+    if let Some(v) = rows::first_unreached(bytes) {
+        return Err(Fault::Unreached(v));
     }
     Ok(())
 }

@@ -1,45 +1,24 @@
 -- Each way out is the row whose test led there.
-use Rattle.std.proofs.Common.{sym, ◌∙◌, arith}
-use Rattle.molecule.specs.Lists.{Bytes}
-use Rattle.molecule.specs.Record.{atoms, bonds}
-use Rattle.molecule.specs.Check.{bad_element, bad_code, bad_ends, unreached}
-use Rattle.molecule.proofs.RowLaws.{row_at_hit, row_at_pass, past_2, past_3, past_4, past_5, formed}
+use Rattle.molecule.proofs.RowLaws.{row_3, row_4, row_5, row_6, no_row, formed}
 use Rattle.molecule.proofs.check.Goals as goal
 
-pub returns-then-element-a : goal.returns-then-element-a
-returns-then-element-a c =
-    let r : Bytes = c.args.bytes.now in
-    let e = c.first_bad_element-element.ensures in
-    rw e (sym (past_2 r c.in_ok-check_counts.ensures.ok ∙ row_at_hit 3 (bad_element r) (atoms r) _ (omega (arith, e))))
+pub returns-in-Some : goal.returns-in-Some
+returns-in-Some c = row_3 _ c.in_ok-check_counts.ensures.ok _ c.in-Some.ensures
 
-pub returns-then-code-n : goal.returns-then-code-n
-returns-then-code-n c =
-    let r : Bytes = c.args.bytes.now in
-    let e = c.first_bad_code-code.ensures in
-    rw e (sym (past_3 r c.in_ok-check_counts.ensures.ok (omega (arith, c.first_bad_element-element.ensures)) ∙ row_at_hit 4 (bad_code r) (bonds r) _ (omega (arith, e))))
+pub returns-in-Some-first_bad_code : goal.returns-in-Some-first_bad_code
+returns-in-Some-first_bad_code c = row_4 _ c.in_ok-check_counts.ensures.ok c.in_default.ensures _ c.in-Some-first_bad_code.ensures
 
-pub returns-then-ends-n : goal.returns-then-ends-n
-returns-then-ends-n c =
-    let r : Bytes = c.args.bytes.now in
-    let e = c.first_bad_ends-ends.ensures in
-    rw e
-    (sym (past_4 r c.in_ok-check_counts.ensures.ok (omega (arith, c.first_bad_element-element.ensures)) (omega (arith, c.first_bad_code-code.ensures))
-    ∙ row_at_hit 5 (bad_ends r) (bonds r) _ (omega (arith, e))))
+pub returns-in-Some-first_bad_ends : goal.returns-in-Some-first_bad_ends
+returns-in-Some-first_bad_ends c =
+    row_5 _ c.in_ok-check_counts.ensures.ok c.in_default.ensures c.in_default-first_bad_code.ensures _ c.in-Some-first_bad_ends.ensures
 
-pub first_unreached-unreached-requires : goal.first_unreached-unreached-requires
-first_unreached-unreached-requires c = formed c.args.bytes.now c.in_ok-check_counts.ensures.ok (omega (arith, c.first_bad_ends-ends.ensures))
+pub first_unreached-requires : goal.first_unreached-requires
+first_unreached-requires c = formed _ c.in_ok-check_counts.ensures.ok c.in_default-first_bad_ends.ensures
 
--- the rows before row 6 are passed
-pub returns-then-unreached-a : goal.returns-then-unreached-a
-returns-then-unreached-a c =
-    let r : Bytes = c.args.bytes.now in
-    let e = c.first_unreached-unreached.ensures in
-    rw e
-    (sym (past_5 r c.in_ok-check_counts.ensures.ok (omega (arith, c.first_bad_element-element.ensures)) (omega (arith, c.first_bad_code-code.ensures)) (omega (arith, c.first_bad_ends-ends.ensures))
-    ∙ row_at_hit 6 (unreached r) (atoms r) _ (omega (arith, e))))
+pub returns-in-Some-first_unreached : goal.returns-in-Some-first_unreached
+returns-in-Some-first_unreached c =
+    row_6 _ c.in_ok-check_counts.ensures.ok c.in_default.ensures c.in_default-first_bad_code.ensures c.in_default-first_bad_ends.ensures _ c.in-Some-first_unreached.ensures
 
 pub returns : goal.returns
 returns c =
-    let r : Bytes = c.args.bytes.now in
-    sym (past_5 r c.in_ok-check_counts.ensures.ok (omega (arith, c.first_bad_element-element.ensures)) (omega (arith, c.first_bad_code-code.ensures)) (omega (arith, c.first_bad_ends-ends.ensures))
-    ∙ row_at_pass 6 (unreached r) (atoms r) _ (omega (arith, c.first_unreached-unreached.ensures)))
+    no_row _ c.in_ok-check_counts.ensures.ok c.in_default.ensures c.in_default-first_bad_code.ensures c.in_default-first_bad_ends.ensures c.in_default-first_unreached.ensures
