@@ -49,12 +49,9 @@ pub fn touching_from(bytes: &[u8], at: &[u64; 65]) -> [u64; 64]
 fn next_to(touch: &[u64; 64], s: u64) -> u64
     ensures { result ≡ unions (λ (i : ℕ). get_or touch.now i 0) (members s) }
 {
-    let mut rest = s;
     let mut near = 0;
-    while rest != 0 {
-        let i = bitset::lowest(rest) as usize;
-        near = bitset::union(near, touch[i]);
-        rest = bitset::without_lowest(rest);
+    for i in bitset::ascending(s) {
+        near = bitset::union(near, touch[i as usize]);
     }
     near
 }

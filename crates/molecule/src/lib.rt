@@ -5,7 +5,6 @@ ghost use Rattle.molecule.specs.Tree.{RightCounts};
 ghost use Rattle.molecule.specs.Check.{check};
 ghost use Rattle.molecule.specs.Verdict.{answer_of};
 
-
 pub mod fields;
 pub mod graph;
 mod rows;

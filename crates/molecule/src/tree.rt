@@ -54,6 +54,14 @@ impl Molecule<'_> {
         fields::element(self.bytes, v)
     }
 
+    // The two ends of bond i, in the order written.
+    pub fn ends(&self, i: usize) -> (usize, usize)
+        requires { i < bonds self.now.bytes.now }
+        ensures { (result.0 ≡ end_a self.now.bytes.now i) × (result.1 ≡ end_b self.now.bytes.now i) }
+    {
+        fields::ends(self.bytes, i)
+    }
+
     // The bond code of bond i.
     pub fn code(&self, i: usize) -> u8
         requires { i < bonds self.now.bytes.now }
