@@ -76,6 +76,9 @@ module _ (slate : Bytes) (s : Slate slate) where
   unfolding slot
   slot_length_lem i h = length-take-le (slot_length slate i) (drop (391 * i + 2) slate) (omega (arith, length-drop (391 * i + 2) slate, s.wide, slot_fits i))
 
+  pub kept_short : length (slot slate 64) ≤ 389
+  kept_short = omega (arith, slot_length_lem 64 (omega arith), slot_fits 64)
+
   -- a string x is written inside slot t: no length changes, and no other string
   module _ (t place : ℕ) (x : Bytes) (h : InSlot t place (length x)) where
     pub inside_room : place + length x ≤ length slate

@@ -201,6 +201,14 @@ pub record TwoStrings (out : Bytes) (a n b m place : ℕ) : Type 0 where
   pub second : b + m ≤ place
   pub room : place + ((n + 2) + (m + 2)) ≤ length out
 
+-- the parts up to middle and from there on, in their order, and turned
+module _ (out : Bytes) (from middle end place : ℕ) (h : (from ≤ middle) × (middle ≤ end) × (end ≤ place) × (place + (end - from + 4) ≤ length out)) where
+  pub two_in_order : TwoStrings out from (middle - from) middle (end - middle) place
+  two_in_order = record { first = omega arith; second = omega arith; room = omega arith }
+
+  pub two_turned : TwoStrings out middle (end - middle) from (middle - from) place
+  two_turned = record { first = omega arith; second = omega arith; room = omega arith }
+
 module _ {out : Bytes} {a n b m place : ℕ} (p : TwoStrings out a n b m place) {next : ℕ} {one : Bytes}
     (w : Wrote out place (wrap (take n (drop a out))) next one) where
   wrap_part : (from k : ℕ) → from + k ≤ length out → length (wrap (take k (drop from out))) ≡ k + 2
