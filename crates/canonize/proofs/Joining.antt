@@ -68,9 +68,6 @@ module _ {set : ℕ} {start : Bytes} {place : ℕ} (s : Slate start) (room : Fre
   short : length p.done ≤ length (bundle (slot start) set)
   short = omega (arith, sizes)
 
-  pub partly_length : length now ≡ length start
-  partly_length = room_length room s p.wrote short
-
   pub partly_serves : Slate now
   partly_serves = room_serves room s p.wrote short
 

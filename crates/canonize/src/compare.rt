@@ -3,6 +3,7 @@ ghost use Rattle.std.specs.Prelude.{◌≡◌};
 ghost use Rattle.canonize.specs.Strings.{lex_le, same, hash};
 
 // x comes before y in lexicographic order, or is equal to it.
+#[tactic(auto, using(crate::proofs::Comparing::le_lex))]
 pub fn less_or_equal(x: &[u8], y: &[u8]) -> bool
     ensures { result ≡ lex_le x.now y.now }
 {
@@ -10,6 +11,7 @@ pub fn less_or_equal(x: &[u8], y: &[u8]) -> bool
 }
 
 // x and y are equal.
+#[tactic(auto, using(crate::proofs::Comparing::same_pointwise))]
 pub fn equal(x: &[u8], y: &[u8]) -> bool
     ensures { result ≡ same x.now y.now }
 {

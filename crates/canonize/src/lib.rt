@@ -26,7 +26,7 @@ pub enum Labelled {
 }
 
 // Whether the set is a fragment of an accepted record: not empty, of its bonds, and connected.
-#[tactic(auto, using(molecule::proofs::Accepted::accepted_formed))]
+#[tactic(auto, using(molecule::proofs::Accepted::accepted_formed, crate::proofs::Answers::set_empty, crate::proofs::Answers::set_outside))]
 fn is_fragment(bytes: &[u8], at: &[u64; 65], set: u64) -> bool
     requires { (check bytes.now ≡ accepted) × (at.now ≡ bonds_at_words bytes.now) }
     ensures { result ≡ not (bad_set bytes.now set) }

@@ -77,6 +77,7 @@ pub fn put_wrapped(slate: &mut [u8], from: usize, n: usize, place: usize) -> usi
 }
 
 // Puts the string of slot i, wrapped.
+#[tactic(auto, using(crate::proofs::Wrapping::length_wrap, crate::proofs::Slots::slot_length_lem), unfolding(crate::specs::Inner::Slate::slot))]
 fn put_slot(slate: &mut [u8], i: u32, place: usize) -> usize
     requires { Slate slate.old × (i < 64) × NoneShared (391 * i) 391 place (length (wrap (slot slate.old i)))
         × (place + length (wrap (slot slate.old i)) ≤ length slate.old) }

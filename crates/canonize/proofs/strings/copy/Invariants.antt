@@ -1,5 +1,5 @@
 -- The first j bytes are written.
-use Rattle.std.proofs.Common.{◌≡◌, ◌<◌, take, drop, length}
+use Rattle.std.proofs.Common.{◌≡◌, take, drop}
 use Rattle.std.proofs.Math.Seq.{paste}
 use Rattle.canonize.proofs.strings.copy.Given as goal
 

@@ -1,5 +1,5 @@
 -- best is the least of the members that the loop has passed.
-use Rattle.std.proofs.Common.{◌≡◌, ◌^◌, ◌<◌}
+use Rattle.std.proofs.Common.{◌<◌}
 use Rattle.bitset.specs.Bits.{Sub, diff, size}
 use Rattle.canonize.specs.Inner.Slate.{slot}
 use Rattle.canonize.specs.Inner.Places.{Least}

@@ -1,5 +1,5 @@
 -- A turn writes the least string of the rest.
-use Rattle.std.proofs.Common.{◌<◌, arith}
+use Rattle.std.proofs.Common.{arith}
 use Rattle.bitset.proofs.Laws.{size_remove}
 use Rattle.canonize.proofs.Joining.{partly_none, partly_serves, partly_wrote, partly_room, partly_small, partly_next}
 use Rattle.canonize.proofs.Slots.{room_apart, room_ends}
