@@ -1,24 +1,43 @@
--- label's answer, row by row. Assumes nothing.
-use mathlib.Core.Path.{◌≡◌, ap, ◌∙◌}
-use mathlib.Core.Bool.{true, false, not, ◌||◌}
-use mathlib.Core.List.{◌++◌}
-use Prim.Native.Nat.{ℕ, ◌^◌, ◌≤◌, ◌<◌}
-use native.Mathlib.Nat.{zero-add}
-use lib.ListN.{length, drop}
-use lib.Dec.{ltb, leb, eqb}
-use borrow.Author.Tests.{lt-ltb, le-ltb, leb-false, not-false}
+-- label's answer, row by row.
+use Rattle.std.proofs.Common.{◌≡◌, ◌≢◌, ◌∙◌, ◌++◌, ◌||◌, ◌^◌, ◌≤◌, ◌<◌, ℕ, Bool, true, false, not, length, drop, eqb, ltb, leb, refl, ap, arith, zero-add, eq-eqb, ne_eqb, eqb-true, lt-ltb, le-ltb, le-leb, leb-false}
+use Rattle.std.proofs.lemmas.Bool.{not-false, lt-leb, eqb-false}
+use native.Mathlib.Decide.{dec_lt}
+use Rattle.bitset.specs.Bits.{is_sub}
 use Rattle.bitset.proofs.Bools.{or_false}
 use Rattle.molecule.specs.Lists.{Bytes}
-use Rattle.molecule.specs.Record.{bonds}
+use Rattle.molecule.specs.Record.{bonds, all_bonds}
 use Rattle.molecule.specs.Touch.{connected}
 use Rattle.molecule.specs.Connected.{Own, Connected}
 use Rattle.molecule.specs.Check.{accepted, refused, row, check}
 use Rattle.molecule.proofs.Accepted.{accepted_formed}
 use Rattle.molecule.proofs.RowLaws.{row_hit, row_pass}
-use Rattle.molecule.proofs.Components.{connected_true}
+use Rattle.molecule.proofs.Components.{own_all, all_own, connected_true}
 use Rattle.canonize.specs.Label.{label}
 use Rattle.canonize.specs.Inner.Places.{written, Wrote}
 use Rattle.canonize.specs.Answer.{bad_set, label_verdict, labelled, turned_back, label_answer, buffer_after}
+
+-- row 13, by the tests of the set
+module _ (r : Bytes) (s : ℕ) where
+  pub set_empty : s ≡ 0 → false ≡ not (bad_set r s)
+  unfolding bad_set
+  set_empty e = rw (eq-eqb s 0 e)
+
+  pub set_outside : s ≢ 0 → is_sub s (all_bonds r) ≡ false → false ≡ not (bad_set r s)
+  unfolding bad_set
+  set_outside n e =
+      let h : 2 ^ bonds r ≤ s = elim (dec_lt s (2 ^ bonds r)) [ yes o ↦ absurd (eqb-false _ _ e (own_all r s o)) | no k ↦ omega arith ] in
+      rw (ne_eqb s 0 n, le-leb (2 ^ bonds r) s h)
+
+  pub set_own : is_sub s (all_bonds r) ≡ true → Own r s
+  set_own e = all_own r s (eqb-true _ _ e)
+
+  pub set_inside : s ≢ 0 → Own r s → connected r s ≡ not (bad_set r s)
+  unfolding bad_set
+  set_inside n o = rw (ne_eqb s 0 n, lt-leb (2 ^ bonds r) s o) (twice (connected r s))
+    where
+      twice : (b : Bool) → b ≡ not (not b)
+      twice true = refl
+      twice false = refl
 
 module _ (r : Bytes) (s : ℕ) (buffer : Bytes) where
   -- turned back: the row, and the buffer as it was

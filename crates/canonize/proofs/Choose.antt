@@ -1,7 +1,6 @@
 -- From numbered bonds and a test on the numbers (a word's bits) to a piece of the molecule.
 use borrow.Author.Tests.{eqb-true, le-ltb, lt-ltb}
 use mathlib.Core.Path.{◌≡◌, refl, sym, ap}
-use mathlib.Core.Logic.{◌↔◌}
 use mathlib.Core.Bool.{Bool, true, not}
 use mathlib.Core.List.Memᴰ.{head as m_head}
 use mathlib.Core.List.Permᴰ.{trans as p_trans}
@@ -11,14 +10,13 @@ use native.Mathlib.Omega.{arith}
 use lib.ListN.{length}
 use lib.Dec.{eqb, ltb}
 use Rattle.molecule.proofs.Perms.{not_both, perm_eq, mem_some, perm_map, map-append, keep_mem, keep_intro, keep_split, keep_distinct, eqb_yes, eqb_no, perm_exchange}
-use Rattle.canonize.specs.Fragment.{Bond, Frag, arcs, degree, label_of, more, touched_by, turn}
+use Rattle.canonize.specs.Fragment.{Bond, Frag, arcs, degree, more, touched_by, turn}
 use Rattle.molecule.specs.Lists.{filter}
 use mathlib.Core.List.{append-nil}
-use Rattle.canonize.proofs.Peeling.{Joined}
 use Rattle.canonize.proofs.Rounds.{Treelike, arcs_some, arcs_turn}
 use Rattle.canonize.proofs.Hanging.{Clean}
 use Rattle.canonize.proofs.Parts.{ConnectedBonds}
-use Rattle.canonize.proofs.Facts.{Piece, pieces_iff}
+use Rattle.canonize.proofs.Facts.{Piece}
 
 -- the bonds that a test on their numbers picks, and the others
 pub chosen_by : (bond : ℕ → Bond) (numbers : List ℕ) (p : ℕ → Bool) → Perm (map bond numbers) (map bond (filter p numbers) ++ map bond (filter (λ n. not (p n)) numbers))
@@ -65,13 +63,3 @@ more_bonds [] bs t = absurd (omega (arith, t.count))
 more_bonds (a ∷ []) bs t = sym (le-ltb 1 (length bs) (omega (arith, t.count)))
 more_bonds (a ∷ b ∷ []) bs t = sym (le-ltb 1 (length bs) (omega (arith, t.count)))
 more_bonds (a ∷ b ∷ c ∷ r) bs t = sym (lt-ltb 1 (length bs) (omega (arith, t.count)))
-
--- the theorem for bond sets given by tests on bond numbers, of one molecule
-pub sets_iff : (atoms : List ℕ) (elem : ℕ → ℕ) (bond : ℕ → Bond) (numbers : List ℕ) → Clean (record { atoms = atoms; bonds = map bond numbers; elem = elem })
-    → (p q : ℕ → Bool) → ConnectedBonds (map bond (filter p numbers)) → ConnectedBonds (map bond (filter q numbers))
-    → (label_of (record { atoms = touched_by (map bond (filter p numbers)) atoms; bonds = map bond (filter p numbers); elem = elem }) ≡ label_of (record { atoms = touched_by (map bond (filter q numbers)) atoms; bonds = map bond (filter q numbers); elem = elem }))
-    ↔ Joined (record { atoms = touched_by (map bond (filter p numbers)) atoms; bonds = map bond (filter p numbers); elem = elem }) (record { atoms = touched_by (map bond (filter q numbers)) atoms; bonds = map bond (filter q numbers); elem = elem })
-sets_iff atoms elem bond numbers c p q f g =
-    let a : Frag = record { atoms = atoms; bonds = map bond numbers; elem = elem } in
-    pieces_iff a a c c (touched_by (map bond (filter p numbers)) atoms) (touched_by (map bond (filter q numbers)) atoms) (map bond (filter p numbers)) (map bond (filter q numbers))
-    (piece_of a c (map bond (filter p numbers)) (map bond (filter (λ n. not (p n)) numbers)) (chosen_by bond numbers p) f) (piece_of a c (map bond (filter q numbers)) (map bond (filter (λ n. not (q n)) numbers)) (chosen_by bond numbers q) g)

@@ -1,6 +1,6 @@
 -- The fragment of a set of bonds of a record: its bonds, arcs and atoms by the set's members; of a connected set of an accepted record it is a clean tree. Assumes nothing.
 use mathlib.Core.Path.{◌≡◌, refl, ap, ◌∙◌}
-use mathlib.Core.Logic.{◌⊎◌, inl, inr, ◌≢◌, ⊎_elim, ◌↔◌}
+use mathlib.Core.Logic.{◌⊎◌, inl, inr, ◌≢◌, ⊎_elim}
 use mathlib.Core.List.Memᴰ.{map as mem_map}
 use mathlib.Core.List.Memᴰ.{of_map as mem_of_map}
 use mathlib.Core.List.{List, map, Memᴰ as Mem}
@@ -92,9 +92,6 @@ module _ (r : Bytes) (s : ℕ) (e : check r ≡ accepted) (o : Own r s) where
       go : (end_a r i ≡ v) ⊎ (end_b r i ≡ v) → Mem v (fragment r s).atoms
       go (inl q) = touched_has (bonds_of r s) (numbers_from 0 (atoms r)) (numbers_mem (atoms r) 0 v (omega arith) (omega (arith, ends.0))) (arc (end_b r i) (end_a r i) (code r i)) (arc_has r s i (end_b r i) (end_a r i) b (inr (refl, refl))) q
       go (inr q) = touched_has (bonds_of r s) (numbers_from 0 (atoms r)) (numbers_mem (atoms r) 0 v (omega arith) (omega (arith, ends.1))) (arc (end_a r i) (end_b r i) (code r i)) (arc_has r s i (end_a r i) (end_b r i) b (inl (refl, refl))) q
-
-  pub fragment_atoms : (v : ℕ) → Mem v (fragment r s).atoms ↔ AtomOf r s v
-  fragment_atoms v = (λ m. atom_in m, λ w. atom_has w)
 
   -- links are steps between touching numbers
   steps : {b c d : ℕ} → Linked r s b c → Steps (bond_of r) (members s) c d → Steps (bond_of r) (members s) b d

@@ -1,12 +1,12 @@
 -- Strings of a set, sorted, wrapped and joined, and writing them one after another. Assumes nothing.
 use mathlib.Core.Path.{◌≡◌, refl, sym, ap, ◌∙◌}
 use mathlib.Core.List.{List, [], ◌∷◌, ◌++◌, map, append_assoc, append-nil}
-use Prim.Native.Nat.{ℕ, ◌+◌, ◌^◌, ◌≤◌}
+use Prim.Native.Nat.{ℕ, ◌+◌, ◌^◌, ◌≤◌, ◌<◌}
 use native.Mathlib.Omega.{arith}
 use lib.ListN.{length, length-append}
 use lib.Bits.{and_self}
 use Rattle.bitset.specs.Bits.{bit, Sub, diff, members}
-use Rattle.bitset.proofs.Laws.{members_done, sub_trans}
+use Rattle.bitset.proofs.Laws.{members_done, member_lt, sub_trans}
 use Rattle.bitset.proofs.Members.{members_bit, sub_in, diff_sub}
 use Rattle.molecule.specs.Lists.{Bytes}
 use Rattle.molecule.proofs.Perms.{map_agree}
@@ -68,9 +68,6 @@ module _ {set : ℕ} {start : Bytes} {place : ℕ} (s : Slate start) (room : Fre
   short : length p.done ≤ length (bundle (slot start) set)
   short = omega (arith, sizes)
 
-  pub partly_length : length now ≡ length start
-  partly_length = room_length room s p.wrote short
-
   pub partly_serves : Slate now
   partly_serves = room_serves room s p.wrote short
 
@@ -87,6 +84,9 @@ module _ {set : ℕ} {start : Bytes} {place : ℕ} (s : Slate start) (room : Fre
 
     this : slot now i ≡ slot start i
     this = same i l.member
+
+    pub partly_small : set < 2 ^ 64 → i < 64
+    partly_small h = member_lt 64 set i h (sub_in rest set p.within i l.member)
 
     out_sizes : length (bundle (slot start) rest) ≡ length (wrap (slot now i)) + length (bundle (slot start) (diff rest (2 ^ i)))
     out_sizes = ap length (bundle_out (slot start) rest i first) ∙ rw this (length-append (wrap (slot start i)) (bundle (slot start) (diff rest (2 ^ i))))
@@ -124,6 +124,10 @@ pub record Gathering (set e t : ℕ) (start : Bytes) (place : ℕ) : Type 0 wher
   pub serves : Slate start
   pub after : After (slot start) set e t
   pub room : FreeSlot set place (length (gathered (slot start) e set))
+
+pub gathering : {set e t : ℕ} {start : Bytes} {place : ℕ} → Slate start → FreeSlot set place (length (gathered (slot start) e set)) → After (slot start) set e t
+    → Gathering set e t start place
+gathering s r a = record { serves = s; after = a; room = r }
 
 module _ {set e t : ℕ} {start : Bytes} {place : ℕ} (g : Gathering set e t start place) where
   pieces : length (gathered (slot start) e set) ≡ length (bundle (slot start) (diff set t)) + (3 + length (bundle (slot start) t))

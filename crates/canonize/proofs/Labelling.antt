@@ -1,11 +1,9 @@
--- The rounds of label, one after the other, and what is left when they end. Assumes nothing.
-use mathlib.Core.Path.{◌≡◌, refl, sym, ◌∙◌}
-use mathlib.Core.Bool.{Bool, true, false}
-use mathlib.Core.List.{List, Memᴰ as Mem}
-use Prim.Native.Nat.{ℕ, ◌≤◌, ◌<◌}
-use native.Mathlib.Omega.{arith}
+-- The rounds of label, one after the other, and what is left when they end.
+use Rattle.std.proofs.Common.{◌≡◌, ◌≢◌, ◌∙◌, ℕ, ◌≤◌, ◌<◌, Bool, true, false, List, refl, sym, ap, arith}
+use native.Mathlib.Decide.{dec_lt}
+use mathlib.Core.List.{Memᴰ as Mem}
 use Rattle.bitset.specs.Bits.{bit, diff, size}
-use Rattle.bitset.proofs.Laws.{member_lt, bit_past}
+use Rattle.bitset.proofs.Laws.{member_lt, bit_past, size_empty, size_zero}
 use Rattle.molecule.specs.Lists.{Bytes, pick}
 use Rattle.molecule.specs.Record.{atoms, bonds, end_a, end_b}
 use Rattle.molecule.specs.Connected.{Own}
@@ -29,6 +27,13 @@ pub record Labelling (r : Bytes) (s L centre : ℕ) (X : ℕ → Bytes) : Type 0
   pub peeled : Peeled r s L X z
   pub small : centre < atoms r
   pub centred : L ≡ 0 → Mem centre z.present
+
+-- more than one bond is left, and one
+pub some_left : {n : ℕ} → 1 < size n → 0 < n
+some_left {n} h = elim (dec_lt 0 n) [ yes k ↦ k | no k ↦ let e : n ≡ 0 = omega arith in absurd (omega (arith, ap size e, size_empty)) ]
+
+pub one_left : {n : ℕ} → n ≢ 0 → size n ≤ 1 → size n ≡ 1
+one_left {n} m h = elim (dec_lt 0 (size n)) [ yes k ↦ omega arith | no k ↦ absurd (m (size_zero n (omega arith))) ]
 
 far_small : (r : Bytes) (L i : ℕ) → Formed r → i < bonds r → far r L i < atoms r
 unfolding far

@@ -11,7 +11,6 @@ pub mod Parts
 pub mod OnStrings
 pub mod Facts
 pub mod Choose
-pub mod Transport
 pub mod OfRecords
 pub mod Plain
 pub mod Fragments

@@ -179,10 +179,6 @@ iso_atoms x y i =
     map_after f [] = refl
     map_after f (j ∷ l) = ap (λ r. f j.atom ∷ r) (map_after f l)
 
-pub data SubKids : Kids → Kids → Type 0 where
-  sub_nil : {l : Kids} → SubKids nil l
-  sub_kid : {b a e : ℕ} {u r u₁ r₁ l : Kids} → Kid l b a e u₁ r₁ → SubKids u u₁ → SubKids r r₁ → SubKids (kid b a e u r) l
-
 pub items_length : (p : ℕ) (k : Kids) → length (items p k) ≡ bonds_in k
 unfolding bonds_in
 items_length p nil = refl

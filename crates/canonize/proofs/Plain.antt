@@ -10,13 +10,16 @@ use mathlib.Core.List.Memᴰ.{head as m_head}
 use mathlib.Core.List.Memᴰ.{map as mem_map}
 use mathlib.Core.List.Memᴰ.{of_map as mem_of_map}
 use mathlib.Core.List.Memᴰ.{tail as m_tail}
+use mathlib.Core.List.Permᴰ.{cons as p_cons}
+use mathlib.Core.List.Permᴰ.{nil as p_nil}
 use mathlib.Core.List.Permᴰ.{symm as perm_sym}
-use mathlib.Core.List.{List, [], ◌∷◌, map, Memᴰ as Mem}
+use mathlib.Core.List.Permᴰ.{trans as p_trans}
+use mathlib.Core.List.{List, [], ◌∷◌, map, Memᴰ as Mem, Permᴰ as Perm}
 use Prim.Native.Nat.{ℕ, ◌+◌, ◌≤◌}
 use native.Mathlib.Omega.{arith}
 use lib.ListN.{length}
 use lib.Dec.{eqb}
-use Rattle.molecule.proofs.Perms.{perm_mem, mem_some, Distinct, keep_mem, keep_intro, keep_distinct, eqb_yes, distinct_le}
+use Rattle.molecule.proofs.Perms.{perm_mem, out_perm, mem_out, mem_some, Distinct, distinct_perm, keep_mem, keep_intro, keep_distinct, eqb_yes, distinct_le}
 use Rattle.canonize.specs.Fragment.{Bond, Frag, arcs, label_of, touched_by, turn}
 use Rattle.molecule.specs.Lists.{filter, numbers_from}
 use Rattle.canonize.proofs.Peeling.{on_bond, both, Joined}
@@ -24,10 +27,23 @@ use Rattle.canonize.proofs.Rounds.{Treelike, arcs_turn}
 use Rattle.canonize.proofs.Hanging.{Clean, label_iff}
 use Rattle.canonize.proofs.Parts.{ConnectedBonds, inside, inside_bound, arc_bond}
 use Rattle.canonize.proofs.Facts.{distinct_image, joined_arc, joined_arc_onto, joined_injective, piece_clean}
-use Rattle.canonize.proofs.Transport.{distinct_same}
 use Rattle.canonize.proofs.Choose.{piece_of, chosen_by}
 use Rattle.canonize.proofs.OfRecords.{Accepted, accepted_clean, molecule, fragment}
 use Rattle.canonize.proofs.OnStrings.{label_document}
+
+-- two lists without repetition and with the same members
+pub distinct_same : {A : Type 0} (k l : List A) → Distinct k → Distinct l → ((x : A) → Mem x k → Mem x l) → ((x : A) → Mem x l → Mem x k) → Perm k l
+distinct_same [] [] d e f g = p_nil
+distinct_same [] (y ∷ l) d e f g = elim (g y (m_head refl)) [ ]
+distinct_same {A} (x ∷ k) l d e f g =
+    let (r, o) = mem_out l (f x (m_head refl)) in
+    let p : Perm (x ∷ r) l = out_perm o in
+    let h : Distinct (x ∷ r) = distinct_perm (perm_sym p) e in
+    p_trans (p_cons refl (distinct_same k r d.1 h.1 (λ y m. skip d.0 m (perm_mem (perm_sym p) (f y (m_tail m)))) (λ y m. skip h.0 m (g y (perm_mem p (m_tail m)))))) p
+  where
+    skip : {y : A} {s t : List A} → (Mem x s → ⊥) → Mem y s → Mem y (x ∷ t) → Mem y t
+    skip n m (m_head q) = absurd (n (mem_cast (sym q) m))
+    skip n m (m_tail q) = q
 
 -- no set of atoms holds as many bonds as it has atoms
 abbrev Sparse : List ℕ → List Bond → Type 0

@@ -31,6 +31,10 @@ pub record Begun (slate : Bytes) (k start : ℕ) (x : Bytes) (end : ℕ) (now : 
   pub short : length x ≤ 389
   pub wrote : Wrote slate start x end now
 
+pub begun : {slate : Bytes} {k start : ℕ} {x : Bytes} {end : ℕ} {now : Bytes} → Slate slate → k < 66 → start ≡ 391 * k + 2 → length x ≤ 389
+    → Wrote slate start x end now → Begun slate k start x end now
+begun s h e l w = record { serves = s; within = h; at = e; short = l; wrote = w }
+
 module _ {slate : Bytes} {k start : ℕ} {x : Bytes} {end : ℕ} {now : Bytes} (w : Begun slate k start x end now) where
   whole : InSlot k start (length x)
   whole = record { within = w.within; from = omega (arith, w.at); to = omega (arith, w.at, w.short) }
@@ -89,6 +93,10 @@ pub record Hands (r : Bytes) (s L i v : ℕ) (slate : Bytes) (start b : ℕ) : T
   pub is : b ≡ code r i
   pub fits : length (handed r s L (slot slate) i v) ≤ 389
 
+pub hands : {r : Bytes} {s L i v : ℕ} {slate : Bytes} {start b : ℕ} → Slate slate → bit L i ≡ 1 → i < 64 → start ≡ 391 * i + 2 → b ≡ code r i
+    → length (handed r s L (slot slate) i v) ≤ 389 → Hands r s L i v slate start b
+hands w h l e c f = record { serves = w; left = h; small = l; at = e; is = c; fits = f }
+
 module _ {r : Bytes} {s L i v : ℕ} {slate : Bytes} {start b : ℕ} (h : Hands r s L i v slate start b) where
   first : Begun slate i start (code r i ∷ []) (start + 1) (set slate start b)
   first = record {
@@ -145,6 +153,10 @@ pub record OuterEnds (r : Bytes) (s L i k : ℕ) (slate : Bytes) (from : ℕ) : 
   pub at : from ≡ 391 * i + 2
   pub fits : length (centres r s L (slot slate) i) ≤ 389
 
+pub outer_ends : {r : Bytes} {s L i k : ℕ} {slate : Bytes} {from : ℕ} → Slate slate → bit L i ≡ 1 → i < 64 → 64 ≤ k → k < 66 → from ≡ 391 * i + 2
+    → length (centres r s L (slot slate) i) ≤ 389 → OuterEnds r s L i k slate from
+outer_ends w h l a b e f = record { serves = w; left = h; small = l; high = a; within = b; at = e; fits = f }
+
 module _ {r : Bytes} {s L i k : ℕ} {slate : Bytes} {from : ℕ} (h : OuterEnds r s L i k slate from) where
   abbrev string : ℕ → Bytes
   string v = collapse (strings_at r s L (slot slate) v)
@@ -159,8 +171,8 @@ module _ {r : Bytes} {s L i k : ℕ} {slate : Bytes} {from : ℕ} (h : OuterEnds
   both_short = omega (arith, length_collapse_two one two, h.fits)
 
   -- a string that goes to slot i
-  begun : {x : Bytes} {end : ℕ} {now : Bytes} → length x ≤ 384 → Wrote slate from x end now → Begun slate i from x end now
-  begun l w = record { serves = h.serves; within = omega (arith, h.small); at = h.at; short = omega arith; wrote = w }
+  placed : {x : Bytes} {end : ℕ} {now : Bytes} → length x ≤ 384 → Wrote slate from x end now → Begun slate i from x end now
+  placed l w = begun h.serves (omega (arith, h.small)) h.at (omega arith) w
 
   pub first_room : FreeSlot (received r s L (end_a r i)) from (length one)
   first_room = record {
@@ -171,7 +183,7 @@ module _ {r : Bytes} {s L i k : ℕ} {slate : Bytes} {from : ℕ} (h : OuterEnds
 
   module _ {middle : ℕ} {then : Bytes} (w : Wrote slate from one middle then) where
     upper : Begun slate i from one middle then
-    upper = begun (omega (arith, both_short)) w
+    upper = placed (omega (arith, both_short)) w
 
     pub first_serves : Slate then
     first_serves = begun_serves upper
@@ -191,7 +203,7 @@ module _ {r : Bytes} {s L i k : ℕ} {slate : Bytes} {from : ℕ} (h : OuterEnds
       next = rw strings_two at v
 
       pair : Begun slate i from (one ++ two) end both
-      pair = begun (omega (arith, length-append one two, both_short)) (wrote_then w next (omega (arith, both_short, h.serves.wide, h.at, h.small)))
+      pair = placed (omega (arith, length-append one two, both_short)) (wrote_then w next (omega (arith, both_short, h.serves.wide, h.at, h.small)))
 
       -- where they stand: before slot k, in 384 bytes
       pub ends_places : (from ≤ middle) × (middle ≤ end) × (end ≤ 391 * k) × (end - from ≤ 384)

@@ -1,42 +1,34 @@
--- A round, a bond at a time: the bonds of L are passed in any order, and those that have an end atom hand over. Assumes nothing.
-use mathlib.Core.Path.{◌≡◌, refl, sym, ap, ◌∙◌}
-use mathlib.Core.Logic.{◌⊎◌, inl, inr, ◌≢◌, ⊎_elim}
-use mathlib.Core.Bool.{true, false, true≢false}
-use mathlib.Core.List.{◌∷◌}
-use Prim.Native.Nat.{ℕ, ◌^◌, ◌≤◌}
-use native.Mathlib.Omega.{arith}
-use lib.ListN.{length}
-use lib.Bits.{bit_or}
-use Rattle.bitset.specs.Bits.{bit, Sub, diff}
-use Rattle.bitset.proofs.Laws.{bit_le, bit_diff, bit_empty, bit_one, one_cases, or_cases, sub_trans, sub_anti}
+-- A round, a bond at a time: the bonds of L are passed in any order, and those that have an end atom hand over.
+use Rattle.std.proofs.Common.{◌≡◌, ◌≢◌, ◌⊎◌, ◌∷◌, ◌∙◌, ℕ, ◌^◌, ◌≤◌, ◌<◌, Bool, true, false, true≢false, length, refl, sym, ap, inl, inr, ⊎_elim, arith, bit_or}
+use Rattle.bitset.specs.Bits.{bit, Sub, diff, Lowest, WithoutLowest}
+use Rattle.bitset.proofs.Laws.{bit_le, bit_diff, bit_empty, bit_one, one_cases, or_cases, sub_trans, sub_anti, member_lt}
 use Rattle.bitset.proofs.Members.{sub_in, sub_of, or_left_in, or_right_in, one_is, diff_sub}
-use Rattle.molecule.specs.Lists.{Bytes}
-use Rattle.molecule.specs.Record.{end_a, end_b, code}
+use Rattle.molecule.specs.Lists.{Bytes, pick}
+use Rattle.molecule.specs.Record.{atoms, bonds, end_a, end_b, code}
 use Rattle.molecule.specs.Connected.{Own}
+use Rattle.molecule.specs.Tree.{Formed}
 use Rattle.canonize.specs.Strings.{collapse}
 use Rattle.canonize.specs.Inner.Slate.{slot, Slate}
 use Rattle.canonize.specs.Inner.Places.{SlotIs}
 use Rattle.canonize.specs.Inner.Words.{is_tip, has_tip, outer, tip, handed, Fits, Round}
 use Rattle.canonize.proofs.Words.{outer_in, outer_has, strings_same}
 
--- atom v is the end atom of bond i: its first end where that is one, else its second
-pub record Tip (r : Bytes) (L i v : ℕ) : Type 0 where
-  pub has : has_tip r L i ≡ true
-  pub is : tip r L i ≡ v
-
-module _ (r : Bytes) (L i : ℕ) where
-  pub tip_first : is_tip r L (end_a r i) ≡ true → Tip r L i (end_a r i)
-  unfolding tip
-  tip_first e = record { has = rw e; is = rw e }
-
-  pub tip_second : is_tip r L (end_a r i) ≡ false → is_tip r L (end_b r i) ≡ true → Tip r L i (end_b r i)
-  unfolding tip
-  tip_second e f = record { has = rw (e, f); is = rw e }
+-- the end atom of a bond is an atom of the record
+pub tip_small : {r : Bytes} (L : ℕ) {i : ℕ} → Formed r → i < bonds r → tip r L i < atoms r
+unfolding tip
+tip_small {r} L {i} k h = go (is_tip r L (end_a r i))
+  where
+    go : (b : Bool) → pick b (end_a r i) (end_b r i) < atoms r
+    go true = (k.ends i h).0
+    go false = (k.ends i h).1
 
 -- bond i is the next of those that are still to be passed
 pub record Next (rest i next : ℕ) : Type 0 where
   pub member : bit rest i ≡ 1
   pub is : next ≡ diff rest (2 ^ i)
+
+pub next_of : {rest i next : ℕ} → Lowest rest i → WithoutLowest rest next → Next rest i next
+next_of {rest} l w = record { member = l.member; is = rw l.is w.is }
 
 -- the bonds of rest are still to be passed; taken are those passed that have handed over
 pub record Rounding (r : Bytes) (s L : ℕ) (old : Bytes) (rest taken : ℕ) (now : Bytes) : Type 0 where
@@ -60,6 +52,10 @@ module _ {r : Bytes} {s L : ℕ} {old : Bytes} {rest taken : ℕ} {now : Bytes} 
     pub next_left : bit L i ≡ 1
     next_left = sub_in rest L w.within i n.member
 
+    -- it is one of the record's
+    pub next_own : Own r L → i < bonds r
+    next_own o = member_lt (bonds r) L i o next_left
+
     next_in : Sub next L
     next_in = rw n.is (sub_trans (diff rest (2 ^ i)) rest L (diff_sub rest (2 ^ i)) w.within)
 
@@ -78,13 +74,13 @@ module _ {r : Bytes} {s L : ℕ} {old : Bytes} {rest taken : ℕ} {now : Bytes} 
     handed_same v = ap (λ x. code r i ∷ collapse x) (strings_same r s L (slot old) (slot now) (λ j _ k. w.before j k) v)
 
     -- it fits
-    pub handed_fits : Own r L → Fits r s L (slot old) → {v : ℕ} → Tip r L i v → length (handed r s L (slot now) i v) ≤ 389
-    handed_fits o f {v} t = omega (arith, ap length (handed_same v ∙ ap (handed r s L (slot old) i) (sym t.is)), f i (outer_has r L i o next_left t.has))
+    pub handed_fits : Own r L → Fits r s L (slot old) → has_tip r L i ≡ true → length (handed r s L (slot now) i (tip r L i)) ≤ 389
+    handed_fits o f t = omega (arith, ap length (handed_same (tip r L i)), f i (outer_has r L i o next_left t))
 
     -- it has an end atom, and has handed over
-    pub rounding_hand : {v : ℕ} → Tip r L i v → {then : Bytes} → SlotIs now i (handed r s L (slot now) i v) then
+    pub rounding_hand : has_tip r L i ≡ true → {then : Bytes} → SlotIs now i (handed r s L (slot now) i (tip r L i)) then
         → Rounding r s L old next (bit_or taken (2 ^ i)) then
-    rounding_hand {v} t {then} z = record {
+    rounding_hand t {then} z = record {
       within = next_in;
       serves = z.serves;
       before = λ j k. z.others j (λ x. omega (arith, next_left, ap (bit L) x)) ∙ w.before j k;
@@ -93,22 +89,22 @@ module _ {r : Bytes} {s L : ℕ} {old : Bytes} {rest taken : ℕ} {now : Bytes} 
     }
       where
         mine : slot then i ≡ handed r s L (slot old) i (tip r L i)
-        mine = z.this ∙ handed_same v ∙ ap (handed r s L (slot old) i) (sym t.is)
+        mine = z.this ∙ handed_same (tip r L i)
 
         go : (j : ℕ) → (bit taken j ≡ 1) ⊎ (bit (2 ^ i) j ≡ 1)
             → (bit L j ≡ 1) × (bit next j ≡ 0) × (has_tip r L j ≡ true) × (slot then j ≡ handed r s L (slot old) j (tip r L j))
         go j (inl k) =
             let p = w.passed j k in
             (p.0, next_less j p.1, p.2, z.others j (λ x. omega (arith, n.member, p.1, ap (bit rest) x)) ∙ p.3)
-        go j (inr k) = let x : j ≡ i = one_is i j k in rw x (next_left, next_gone, t.has, mine)
+        go j (inr k) = let x : j ≡ i = one_is i j k in rw x (next_left, next_gone, t, mine)
 
         every : (j : ℕ) → bit L j ≡ 1 → (j ≡ i) ⊎ (bit rest j ≡ 0) → has_tip r L j ≡ true → bit (bit_or taken (2 ^ i)) j ≡ 1
         every j k (inl x) u = or_right_in taken (2 ^ i) j (rw x (bit_one i))
         every j k (inr l) u = or_left_in taken (2 ^ i) j (w.all j k l u)
 
     -- it has none
-    pub rounding_skip : is_tip r L (end_a r i) ≡ false → is_tip r L (end_b r i) ≡ false → Rounding r s L old next taken now
-    rounding_skip e f = record {
+    pub rounding_skip : has_tip r L i ≡ false → Rounding r s L old next taken now
+    rounding_skip none = record {
       within = next_in;
       serves = w.serves;
       before = w.before;
@@ -116,9 +112,6 @@ module _ {r : Bytes} {s L : ℕ} {old : Bytes} {rest taken : ℕ} {now : Bytes} 
       all = λ j k l u. every j k (next_bit j l) u;
     }
       where
-        none : has_tip r L i ≡ false
-        none = rw (e, f)
-
         every : (j : ℕ) → bit L j ≡ 1 → (j ≡ i) ⊎ (bit rest j ≡ 0) → has_tip r L j ≡ true → bit taken j ≡ 1
         every j k (inl x) u = absurd (true≢false (sym u ∙ ap (has_tip r L) x ∙ none))
         every j k (inr l) u = w.all j k l u

@@ -15,13 +15,13 @@ use mathlib.Core.List.Permᴰ.{refl as perm_refl}
 use mathlib.Core.List.Permᴰ.{swap as p_swap}
 use mathlib.Core.List.Permᴰ.{symm as perm_sym}
 use mathlib.Core.List.Permᴰ.{trans as p_trans}
-use mathlib.Core.List.{List, [], ◌∷◌, ◌++◌, map, append_assoc, append-nil, map-map, Memᴰ as Mem, Permᴰ as Perm}
+use mathlib.Core.List.{List, [], ◌∷◌, ◌++◌, map, append_assoc, append-nil, Memᴰ as Mem, Permᴰ as Perm}
 use Prim.Native.Nat.{ℕ, ◌+◌, ◌*◌, ◌≤◌, ◌<◌}
 use native.Mathlib.Omega.{arith}
 use native.Mathlib.Decide.{ℕ_discrete}
 use lib.ListN.{length, length-append, length-map}
 use lib.Dec.{eqb}
-use Rattle.molecule.proofs.Perms.{not_both, perm_append, perm_exchange, perm_eq, perm_length, perm_mem, mem_some, Distinct, perm_map, keep_perm, keep_mem, keep_intro, keep_map, keep_same, keep_split, keep_distinct, map_agree, eqb_yes, eqb_no}
+use Rattle.molecule.proofs.Perms.{not_both, perm_append, perm_exchange, perm_eq, perm_length, perm_mem, mem_some, Distinct, perm_map, keep_mem, keep_intro, keep_same, keep_split, keep_distinct, eqb_yes, eqb_no}
 use Rattle.canonize.specs.Fragment.{Bond, arcs, degree, end_atom, more, to_ends, turn}
 use Rattle.molecule.specs.Lists.{filter, pick}
 use Rattle.canonize.proofs.RoseTrees.{Kids}
@@ -236,18 +236,6 @@ module _ (ns : List ℕ) (bs : List Bond) (t : Treelike ns bs) (m : more ns ≡ 
   nbr_of : (n : ℕ) (x : Bond) → end_atom (arcs bs) n ≡ true → Mem x (arcs bs) → x.v ≡ n → nbr n ≡ x.u
   unfolding nbr
   nbr_of n x e i h = head_u_one n (filter (leads n) (arcs bs)) (eqb-true (degree (arcs bs) n) 1 e) (keep_intro (leads n) (arcs bs) i (eqb_yes h))
-
-  -- for who goes over the end atoms and asks each for its neighbour: what is handed to n, in whatever order
-  pub handed : {C : Type 0} (far : ℕ → ℕ) (h : ℕ → C) (g : Bond → C) → ((x : Bond) → Mem x (going (end_atom (arcs bs)) bs) → far x.v ≡ x.u) → ((x : Bond) → Mem x (going (end_atom (arcs bs)) bs) → h x.v ≡ g x)
-      → (n : ℕ) → Perm (map h (filter (λ (w : ℕ). both (eqb (far w) n) (end_atom (arcs bs) w)) ns)) (map g (to_ends (end_atom (arcs bs)) n (arcs bs)))
-  handed far h g p q n =
-      let E : ℕ → Bool = end_atom (arcs bs) in
-      let X : List Bond = going E bs in
-      let a : Perm (filter (λ (w : ℕ). eqb (far w) n) (filter E ns)) (map (λ (x : Bond). x.v) (filter (λ (x : Bond). eqb x.u n) X)) =
-      p_trans (keep_perm (λ (w : ℕ). eqb (far w) n) ends_going) (perm_eq (keep_map (λ (x : Bond). x.v) (λ (x : Bond). eqb x.u n) (λ (w : ℕ). eqb (far w) n) X (λ x m. ap (λ (k : ℕ). eqb k n) (p x m)))) in
-      let b : map h (map (λ (x : Bond). x.v) (filter (λ (x : Bond). eqb x.u n) X)) ≡ map g (filter (λ (x : Bond). eqb x.u n) X) =
-      map-map h (λ (x : Bond). x.v) (filter (λ (x : Bond). eqb x.u n) X) ∙ map_agree (λ (x : Bond). h x.v) g (filter (λ (x : Bond). eqb x.u n) X) (λ x m. q x (keep_mem (λ (x : Bond). eqb x.u n) X m).0) in
-      p_trans (perm_eq (ap (map h) (keep_both (λ (w : ℕ). eqb (far w) n) E ns))) (p_trans (perm_map h a) (perm_eq (b ∙ ap (map g) (sym (keep_both (λ (x : Bond). eqb x.u n) (λ (x : Bond). E x.v) (arcs bs))))))
 
   round_linked : (S : ℕ → Bool) (p q : ℕ) → Mem p (filter (λ (n : ℕ). not (end_atom (arcs bs) n)) ns) → Mem q (filter (λ (n : ℕ). not (end_atom (arcs bs) n)) ns) → S p ≡ true → S q ≡ false
       → (x : Bond) × Mem x (arcs (stay (end_atom (arcs bs)) bs)) × (S x.u ≡ true) × (S x.v ≡ false)

@@ -1,24 +1,18 @@
 -- The slots of a slate: their strings as parts of it, and what is left of them where a string is written inside one. Assumes nothing.
-use borrow.Author.Tests.{le-leb, lt-leb}
-use mathlib.Core.Path.{◌≡◌, sym, ap, ap₂, ◌∙◌}
+use mathlib.Core.Path.{◌≡◌, ap, ap₂, ◌∙◌}
 use mathlib.Core.Logic.{◌⊎◌, inl, inr, ◌≢◌}
-use mathlib.Core.Bool.{false}
 use mathlib.Core.List.{[], ◌∷◌}
-use Prim.Native.Nat.{ℕ, suc, ◌+◌, ◌-◌, ◌*◌, ◌/◌, ◌%◌, ◌≤◌, ◌<◌}
+use Prim.Native.Nat.{ℕ, ◌+◌, ◌*◌, ◌/◌, ◌%◌, ◌≤◌, ◌<◌}
 use native.Mathlib.Decide.{ℕ_discrete, dec_lt}
 use native.Mathlib.Omega.{arith}
 use lib.ListN.{length, get_or, take, drop, set, replicate, length-drop, length-set, length-replicate, get_or-eq_default}
-use lib.Dec.{leb}
-use lib.Seq.{length-take-le, drop-cons, get_or-set_same, get_or-set_other}
+use lib.Seq.{length-take-le, get_or-set_same, get_or-set_other}
 use Rattle.bitset.specs.Bits.{bit, Sub}
 use Rattle.bitset.proofs.Laws.{sub_bit}
 use Rattle.molecule.specs.Lists.{Bytes}
 use Rattle.molecule.proofs.Lists.{zeros_at}
-use Rattle.molecule.proofs.Perms.{Order3, below, same, above, order3}
-use Rattle.canonize.specs.Strings.{lex_le}
 use Rattle.canonize.specs.Inner.Slate.{slot_length, slot, Slate}
 use Rattle.canonize.specs.Inner.Places.{written, Wrote, NoneShared, InSlot, FreeSlot, SlotIs}
-use Rattle.canonize.proofs.Sorting.{lexle_below, lexle_above, lexle_same, lex→lexLe}
 use Rattle.canonize.proofs.Writing.{written_set, written_length, written_at, written_part, written_then, wrote_length}
 
 -- nothing is written on a slate of zeros
@@ -28,37 +22,6 @@ slate_blank slate e = record {
   wide = ap length e ∙ length-replicate {A = ℕ} 25806 0;
   fits = λ i h. rw e (omega (arith, zeros_at 25806 (391 * i), zeros_at 25806 (391 * i + 1)));
 }
-
--- the n bytes at a place, where that is the start of slot i and n its length; `&slate[from..from + n]` are the same bytes
-pub slot_at : (slate : Bytes) (i from n : ℕ) → from ≡ 391 * i + 2 → n ≡ slot_length slate i → take n (drop from slate) ≡ slot slate i
-unfolding slot
-slot_at slate i from n e f = rw (e, f)
-
-pub slot_part : (slate : Bytes) (i from n : ℕ) → from ≡ 391 * i + 2 → n ≡ slot_length slate i
-    → take ((from + n) - from) (drop from slate) ≡ slot slate i
-slot_part slate i from n e f = let g : (from + n) - from ≡ n = omega arith in rw g (slot_at slate i from n e f)
-
--- a byte and a string that begins with a byte
-byte_string : (e b : ℕ) (x : Bytes) → lex_le (e ∷ []) (b ∷ x) ≡ leb e b
-byte_string e b x = go (order3 e b)
-  where
-    go : Order3 e b → lex_le (e ∷ []) (b ∷ x) ≡ leb e b
-    go (below h) = lexle_below e b [] x h ∙ sym (le-leb e b (omega arith))
-    go (same h) = lexle_same e b [] x h ∙ lex→lexLe [] x tt ∙ sym (le-leb e b (omega arith))
-    go (above h) = lexle_above e b [] x h ∙ sym (lt-leb e b h)
-
--- a byte and the string of slot i, where that is empty and where not
-pub byte_empty : (slate : Bytes) (e i : ℕ) → slot_length slate i ≡ 0 → lex_le (e ∷ []) (slot slate i) ≡ false
-unfolding slot lex_le
-byte_empty slate e i h = rw h
-
-pub byte_first : (slate : Bytes) (e i : ℕ) → Slate slate → i < 66 → slot_length slate i ≢ 0
-    → lex_le (e ∷ []) (slot slate i) ≡ leb e (get_or slate (391 * i + 2) 0)
-unfolding slot
-byte_first slate e i s h n =
-    let m : slot_length slate i ≡ suc (slot_length slate i - 1) = omega arith in
-    let l : 391 * i + 2 < length slate = omega (arith, s.wide) in
-    rw (m, drop-cons slate (391 * i + 2) 0 l) (byte_string e (get_or slate (391 * i + 2) 0) (take (slot_length slate i - 1) (drop (suc (391 * i + 2)) slate)))
 
 module _ (slate : Bytes) (s : Slate slate) where
   pub slot_fits : (i : ℕ) → slot_length slate i ≤ 389
@@ -75,6 +38,9 @@ module _ (slate : Bytes) (s : Slate slate) where
   pub slot_length_lem : (i : ℕ) → i < 66 → length (slot slate i) ≡ slot_length slate i
   unfolding slot
   slot_length_lem i h = length-take-le (slot_length slate i) (drop (391 * i + 2) slate) (omega (arith, length-drop (391 * i + 2) slate, s.wide, slot_fits i))
+
+  pub kept_short : length (slot slate 64) ≤ 389
+  kept_short = omega (arith, slot_length_lem 64 (omega arith), slot_fits 64)
 
   -- a string x is written inside slot t: no length changes, and no other string
   module _ (t place : ℕ) (x : Bytes) (h : InSlot t place (length x)) where

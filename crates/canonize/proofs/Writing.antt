@@ -90,13 +90,6 @@ module _ (out : Bytes) (k : ℕ) (x : Bytes) (fits : k + length x ≤ length out
 
 -- ---- copying from one place to another
 
--- a turn of a loop that copies to the front
-pub front_next : (out x : Bytes) (j : ℕ) (now : Bytes) → j < length out → j < length x → now ≡ paste out 0 x j
-    → set now j (get_or x j 0) ≡ paste out 0 x (j + 1)
-front_next out x j now h g e =
-    let z : 0 + j ≡ j = omega arith in
-    ap₂ (λ (l : Bytes) (k : ℕ). set l k (get_or x j 0)) e (sym z) ∙ paste-suc out 0 x j 0 (omega arith) g ∙ ap (paste out 0 x) (sym (add-one j))
-
 pub part_length : (out : Bytes) (from n : ℕ) → from + n ≤ length out → length (take n (drop from out)) ≡ n
 part_length out from n h = length-take-le n (drop from out) (omega (arith, length-drop from out))
 
@@ -201,6 +194,14 @@ pub record TwoStrings (out : Bytes) (a n b m place : ℕ) : Type 0 where
   pub second : b + m ≤ place
   pub room : place + ((n + 2) + (m + 2)) ≤ length out
 
+-- the parts up to middle and from there on, in their order, and turned
+module _ (out : Bytes) (from middle end place : ℕ) (h : (from ≤ middle) × (middle ≤ end) × (end ≤ place) × (place + (end - from + 4) ≤ length out)) where
+  pub two_in_order : TwoStrings out from (middle - from) middle (end - middle) place
+  two_in_order = record { first = omega arith; second = omega arith; room = omega arith }
+
+  pub two_turned : TwoStrings out middle (end - middle) from (middle - from) place
+  two_turned = record { first = omega arith; second = omega arith; room = omega arith }
+
 module _ {out : Bytes} {a n b m place : ℕ} (p : TwoStrings out a n b m place) {next : ℕ} {one : Bytes}
     (w : Wrote out place (wrap (take n (drop a out))) next one) where
   wrap_part : (from k : ℕ) → from + k ≤ length out → length (wrap (take k (drop from out))) ≡ k + 2
@@ -227,6 +228,3 @@ module _ {out : Bytes} {a n b m place : ℕ} (p : TwoStrings out a n b m place) 
   module _ {last : ℕ} {now : Bytes} (v : Wrote one next (wrap (take m (drop b one))) last now) where
     pub pair_wrote : Wrote out place (wrap (take n (drop a out)) ++ wrap (take m (drop b out))) last now
     pair_wrote = wrote_then w (rw still at v) (omega (arith, size_one, size_two, p.room))
-
-    pub pair_whole : length now ≡ length out
-    pair_whole = wrote_length pair_wrote (omega (arith, length-append (wrap (take n (drop a out))) (wrap (take m (drop b out))), size_one, size_two, p.room))

@@ -26,33 +26,30 @@ pub enum Labelled {
 }
 
 // Whether the set is a fragment of an accepted record: not empty, of its bonds, and connected.
+#[tactic(auto, using(molecule::proofs::Accepted::accepted_formed, crate::proofs::Answers::set_empty, crate::proofs::Answers::set_outside))]
 fn is_fragment(bytes: &[u8], at: &[u64; 65], set: u64) -> bool
     requires { (check bytes.now ≡ accepted) × (at.now ≡ bonds_at_words bytes.now) }
     ensures { result ≡ not (bad_set bytes.now set) }
 {
-    if set == 0 {
-        return false;
-    }
-    if !bitset::is_subset(set, bitset::first_n(fields::bonds(bytes) as u32)) {
-        return false;
-    }
-    let touch = graph::touching_from(bytes, at);
-    graph::is_connected(&touch, set)
+    set != 0
+        && bitset::is_subset(set, bitset::first_n(fields::bonds(bytes) as u32))
+        && graph::is_connected(&graph::touching_from(bytes, at), set)
 }
 
 // The label of set is kept, and goes to the front of out; the answer is its length.
+#[tactic(auto, using(crate::proofs::Slots::kept_short), unfolding(crate::specs::Inner::Slate::kept))]
 fn label_out(bytes: &[u8], at: &[u64; 65], set: u64, page: &mut [u8], out: &mut [u8]) -> usize
     requires { Labels bytes.now at.now set × Slate page.old × (389 ≤ length out.old) }
     ensures { Wrote out.old 0 (label bytes.now set) result out.new }
 {
     slate::keep(bytes, at, set, page);
-    let n = strings::slot_length(page, 64);
-    let from = strings::start(64);
-    strings::put(out, &page[from..from + n]);
-    n
+    let x = strings::string(page, 64);
+    strings::put(out, x);
+    x.len()
 }
 
 // label of an accepted record.
+#[tactic(auto, using(molecule::proofs::Accepted::accepted_formed, crate::proofs::Answers::good_set))]
 fn label_accepted(bytes: &[u8], set: u64, out: &mut [u8]) -> Labelled
     requires { check bytes.now ≡ accepted }
     ensures answer { answer_of result ≡ label_answer bytes.now set out.old }

@@ -1,5 +1,5 @@
 // Peeling a fragment by words: the set of the bonds left, and in a slot of its own the string that each bond taken off handed over.
-ghost use Rattle.std.specs.Prelude.{◌≡◌, [], ◌∷◌, ◌+◌, ◌-◌, ◌^◌, ◌≤◌, ◌<◌, length, take, drop};
+ghost use Rattle.std.specs.Prelude.{◌≡◌, true, false, MatchOption, [], ◌∷◌, ◌+◌, ◌-◌, ◌^◌, ◌≤◌, ◌<◌, length, take, drop};
 ghost use Rattle.bitset.specs.Bits.{bit};
 ghost use Rattle.molecule.specs.Record.{atoms, bonds};
 ghost use Rattle.molecule.specs.Touch.{bonds_at_words};
@@ -8,24 +8,39 @@ ghost use Rattle.molecule.specs.Tree.{Formed};
 ghost use Rattle.canonize.specs.Strings.{collapse};
 ghost use Rattle.canonize.specs.Inner.Slate.{slot, Slate};
 ghost use Rattle.canonize.specs.Inner.Places.{Wrote, FreeSlot, SlotIs, LabelAt};
-ghost use Rattle.canonize.specs.Inner.Words.{is_tip, outer, far, received, strings_at, handed, centres, Fits, Round};
+ghost use Rattle.canonize.specs.Inner.Words.{is_tip, has_tip, tip, outer, far, received, strings_at, handed, centres, Fits, Round};
 
 use crate::{compare, strings};
 use molecule::fields;
 
 // Whether atom v has one bond of left.
+#[tactic(auto, using(molecule::proofs::Words::atoms_at), unfolding(crate::specs::Inner::Words::is_tip))]
 fn is_tip(bytes: &[u8], at: &[u64; 65], left: u64, v: usize) -> bool
     requires { (at.now ≡ bonds_at_words bytes.now) × (v < 65) }
     ensures { result ≡ is_tip bytes.now left v }
 {
-    let here = bitset::common(at[v], left);
-    if here == 0 {
-        return false;
+    bitset::size(bitset::common(at[v], left)) == 1
+}
+
+// The end of bond i that is an end atom of left.
+#[tactic(auto, unfolding(crate::specs::Inner::Words::tip))]
+fn tip(bytes: &[u8], at: &[u64; 65], left: u64, i: u32) -> Option<usize>
+    requires { Formed bytes.now × (at.now ≡ bonds_at_words bytes.now) × (i < bonds bytes.now) }
+    ensures { MatchOption result (has_tip bytes.now left i ≡ false) (λ v. (has_tip bytes.now left i ≡ true) × (v ≡ tip bytes.now left i)) }
+{
+    let u = fields::end_a(bytes, i as usize);
+    let v = fields::end_b(bytes, i as usize);
+    if is_tip(bytes, at, left, u) {
+        Some(u)
+    } else if is_tip(bytes, at, left, v) {
+        Some(v)
+    } else {
+        None
     }
-    bitset::without_lowest(here) == 0
 }
 
 // Puts the collapsed strings of atom v.
+#[tactic(auto, using(molecule::proofs::Words::atoms_at), unfolding(crate::specs::Inner::Words::received, crate::specs::Inner::Words::strings_at))]
 fn put_atom(
     bytes: &[u8],
     at: &[u64; 65],
@@ -62,38 +77,25 @@ pub fn round(bytes: &[u8], at: &[u64; 65], s: u64, left: u64, slate: &mut [u8]) 
         × Fits bytes.now s left (slot slate.old) }
     ensures { (result ≡ outer bytes.now left) × Round bytes.now s left slate.old slate.new }
 {
-    let mut rest = left;
     let mut taken = 0;
-    while rest != 0 {
-        let i = bitset::lowest(rest);
-        rest = bitset::without_lowest(rest);
-        let u = fields::end_a(bytes, i as usize);
-        if is_tip(bytes, at, left, u) {
-            hand_over(bytes, at, s, left, i, u, slate);
-            taken = bitset::insert(taken, i);
-            continue;
-        }
-        let v = fields::end_b(bytes, i as usize);
-        if is_tip(bytes, at, left, v) {
+    for i in bitset::ascending(left) {
+        if let Some(v) = tip(bytes, at, left, i) {
             hand_over(bytes, at, s, left, i, v, slate);
             taken = bitset::insert(taken, i);
-            continue;
         }
     }
     taken
 }
 
 // The other end of bond i, where one of its ends is an end atom of left.
+#[tactic(auto, unfolding(crate::specs::Inner::Words::far))]
 pub fn far_end(bytes: &[u8], at: &[u64; 65], left: u64, i: u32) -> usize
     requires { Formed bytes.now × (at.now ≡ bonds_at_words bytes.now) × (i < bonds bytes.now) }
     ensures { result ≡ far bytes.now left i }
 {
     let u = fields::end_a(bytes, i as usize);
     let v = fields::end_b(bytes, i as usize);
-    if is_tip(bytes, at, left, u) {
-        return v;
-    }
-    u
+    if is_tip(bytes, at, left, u) { v } else { u }
 }
 
 // One atom left, v: its collapsed strings become the string of slot k.
@@ -125,10 +127,11 @@ fn put_two(slate: &mut [u8], from: usize, middle: usize, end: usize, place: usiz
     let m = end - middle;
     if compare::less_or_equal(&slate[from..middle], &slate[middle..end]) {
         let next = strings::put_wrapped(slate, from, n, place);
-        return strings::put_wrapped(slate, middle, m, next);
+        strings::put_wrapped(slate, middle, m, next)
+    } else {
+        let next = strings::put_wrapped(slate, middle, m, place);
+        strings::put_wrapped(slate, from, n, next)
     }
-    let next = strings::put_wrapped(slate, middle, m, place);
-    strings::put_wrapped(slate, from, n, next)
 }
 
 // Two atoms left, the ends of bond i: its bond code, and their collapsed strings, wrapped, the smaller first, become the string of slot k.

@@ -21,6 +21,7 @@ fn label_into(bytes: &[u8], at: &[u64; 65], x: u64, slate: &mut [u8], k: usize)
 {
     let mut left = x;
     let mut centre = 0;
+    // A while: it peels to a bond or an atom, in as many rounds as that takes.
     while 1 < bitset::size(left) {
         let taken = peel::round(bytes, at, x, left, slate);
         centre = peel::far_end(bytes, at, left, bitset::lowest(left));
@@ -28,12 +29,13 @@ fn label_into(bytes: &[u8], at: &[u64; 65], x: u64, slate: &mut [u8], k: usize)
     }
     if left == 0 {
         peel::put_centre(bytes, at, x, left, centre, slate, k);
-        return;
+    } else {
+        peel::put_centres(bytes, at, x, left, bitset::lowest(left), slate, k);
     }
-    peel::put_centres(bytes, at, x, left, bitset::lowest(left), slate, k);
 }
 
 // The label of x is kept.
+#[tactic(auto, unfolding(crate::specs::Inner::Slate::kept))]
 pub fn keep(bytes: &[u8], at: &[u64; 65], x: u64, slate: &mut [u8])
     requires { Labels bytes.now at.now x × Slate slate.old }
     ensures { Keeps slate.new (label bytes.now x) }
@@ -42,20 +44,18 @@ pub fn keep(bytes: &[u8], at: &[u64; 65], x: u64, slate: &mut [u8])
 }
 
 // Whether the label of x is the one that is kept.
+#[tactic(auto, unfolding(crate::specs::Inner::Slate::kept))]
 pub fn is_kept(bytes: &[u8], at: &[u64; 65], x: u64, slate: &mut [u8]) -> bool
     requires { Labels bytes.now at.now x × Slate slate.old }
     ensures answer { result ≡ same (kept slate.old) (label bytes.now x) }
     ensures keeps { Keeps slate.new (kept slate.old) }
 {
     label_into(bytes, at, x, slate, 65);
-    let n = strings::slot_length(slate, 64);
-    let m = strings::slot_length(slate, 65);
-    let first = strings::start(64);
-    let second = strings::start(65);
-    compare::equal(&slate[first..first + n], &slate[second..second + m])
+    compare::equal(strings::string(slate, 64), strings::string(slate, 65))
 }
 
 // Whether the label of x comes before the one that is kept.
+#[tactic(auto, unfolding(crate::specs::Inner::Slate::kept))]
 pub fn is_before(bytes: &[u8], at: &[u64; 65], x: u64, slate: &mut [u8]) -> bool
     requires { Labels bytes.now at.now x × Slate slate.old }
     ensures answer { result ≡ not (lex_le (kept slate.old) (label bytes.now x)) }
@@ -66,13 +66,12 @@ pub fn is_before(bytes: &[u8], at: &[u64; 65], x: u64, slate: &mut [u8]) -> bool
 }
 
 // The hash of the label that is kept.
+#[tactic(auto, unfolding(crate::specs::Inner::Slate::kept))]
 pub fn hash(slate: &[u8]) -> u64
     requires { Slate slate.now }
     ensures { result ≡ hash (kept slate.now) }
 {
-    let n = strings::slot_length(slate, 64);
-    let from = strings::start(64);
-    compare::hash(&slate[from..from + n])
+    compare::hash(strings::string(slate, 64))
 }
 
 // A number below m that depends on all bytes of the label that is kept, and takes little time.
@@ -80,13 +79,9 @@ pub fn spread(slate: &[u8], m: usize) -> usize
     requires { Slate slate.now × (0 < m) }
     ensures { result < m }
 {
-    let n = strings::slot_length(slate, 64);
-    let end = strings::start(64) + n;
     let mut h: u64 = 0;
-    let mut i = strings::start(64);
-    while i < end {
-        h = (h + slate[i] as u64) * 10_000_019 % 1_099_511_627_776;
-        i += 1;
+    for b in strings::string(slate, 64) {
+        h = (h + u64::from(*b)) * 10_000_019 % 1_099_511_627_776;
     }
     (h / 65_536) as usize % m
 }

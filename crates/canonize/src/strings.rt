@@ -7,13 +7,6 @@ ghost use Rattle.canonize.specs.Inner.Places.{Wrote, NoneShared, FreeSlot, SlotI
 
 use crate::compare;
 
-// A byte as a number.
-fn wide(x: u8) -> usize
-    ensures { (result ≡ x) × (result < 256) }
-{
-    x as usize
-}
-
 // The place at which the string of slot i starts.
 pub fn start(i: usize) -> usize
     requires { i < 66 }
@@ -23,13 +16,24 @@ pub fn start(i: usize) -> usize
 }
 
 // How long the string of slot i is.
+#[tactic(auto, unfolding(crate::specs::Inner::Slate::slot_length))]
 pub fn slot_length(slate: &[u8], i: usize) -> usize
     requires { Slate slate.now × (i < 66) }
     ensures { (result ≡ slot_length slate.now i) × (result ≤ 389) }
 {
-    let low = wide(slate[391 * i]);
-    let high = wide(slate[391 * i + 1]);
+    let low = usize::from(slate[391 * i]);
+    let high = usize::from(slate[391 * i + 1]);
     low + 256 * high
+}
+
+// The string of slot i.
+#[tactic(auto, unfolding(crate::specs::Inner::Slate::slot))]
+pub fn string(slate: &[u8], i: usize) -> &[u8]
+    requires { Slate slate.now × (i < 66) }
+    ensures { result.now ≡ slot slate.now i }
+{
+    let from = start(i);
+    &slate[from..from + slot_length(slate, i)]
 }
 
 // The n bytes that stand in slot i become its string.
@@ -42,16 +46,12 @@ pub fn set_length(slate: &mut [u8], i: usize, n: usize)
 }
 
 // Puts x at the front of out.
+#[tactic(auto, unfolding(crate::specs::Inner::Places::written))]
 pub fn put(out: &mut [u8], x: &[u8])
     requires { length x.now ≤ length out.old }
     ensures { Wrote out.old 0 x.now (length x.now) out.new }
 {
-    let n = x.len();
-    let mut j = 0;
-    while j < n {
-        out[j] = x[j];
-        j += 1;
-    }
+    out[..x.len()].copy_from_slice(x);
 }
 
 // Copies n bytes to a place, and answers the place after them.
@@ -59,10 +59,8 @@ fn copy(slate: &mut [u8], from: usize, n: usize, to: usize) -> usize
     requires { NoneShared from n to n × (from + n ≤ length slate.old) × (to + n ≤ length slate.old) }
     ensures { Wrote slate.old to (take n (drop from slate.old)) result slate.new }
 {
-    let mut j = 0;
-    while j < n {
+    for j in 0..n {
         slate[to + j] = slate[from + j];
-        j += 1;
     }
     to + n
 }
@@ -79,6 +77,7 @@ pub fn put_wrapped(slate: &mut [u8], from: usize, n: usize, place: usize) -> usi
 }
 
 // Puts the string of slot i, wrapped.
+#[tactic(auto, using(crate::proofs::Wrapping::length_wrap, crate::proofs::Slots::slot_length_lem), unfolding(crate::specs::Inner::Slate::slot))]
 fn put_slot(slate: &mut [u8], i: u32, place: usize) -> usize
     requires { Slate slate.old × (i < 64) × NoneShared (391 * i) 391 place (length (wrap (slot slate.old i)))
         × (place + length (wrap (slot slate.old i)) ≤ length slate.old) }
@@ -94,11 +93,7 @@ pub fn slot_before(slate: &[u8], i: usize, j: usize) -> bool
     requires { Slate slate.now × (i < 66) × (j < 66) }
     ensures { result ≡ lex_le (slot slate.now i) (slot slate.now j) }
 {
-    let n = slot_length(slate, i);
-    let m = slot_length(slate, j);
-    let first = start(i);
-    let second = start(j);
-    compare::less_or_equal(&slate[first..first + n], &slate[second..second + m])
+    compare::less_or_equal(string(slate, i), string(slate, j))
 }
 
 // The slot of the set whose string comes before all the others' or is equal to them.
@@ -107,14 +102,10 @@ fn least(slate: &[u8], set: u64) -> u32
     ensures { Least (slot slate.now) set result }
 {
     let mut best = bitset::lowest(set);
-    let mut rest = bitset::without_lowest(set);
-    while rest != 0 {
-        let i = bitset::lowest(rest);
-        rest = bitset::without_lowest(rest);
-        if slot_before(slate, best as usize, i as usize) {
-            continue;
+    for i in bitset::ascending(bitset::without_lowest(set)) {
+        if !slot_before(slate, best as usize, i as usize) {
+            best = i;
         }
-        best = i;
     }
     best
 }
@@ -126,6 +117,7 @@ fn put_sorted(slate: &mut [u8], set: u64, place: usize) -> usize
 {
     let mut next = place;
     let mut rest = set;
+    // A while: it takes the least string's slot and not the lowest.
     while rest != 0 {
         let i = least(slate, rest);
         next = put_slot(slate, i, next);
@@ -134,37 +126,22 @@ fn put_sorted(slate: &mut [u8], set: u64, place: usize) -> usize
     next
 }
 
-// Whether the one byte e comes before the string of slot i, or is equal to it.
-fn byte_before(slate: &[u8], e: u8, i: u32) -> bool
-    requires { Slate slate.now × (i < 64) }
-    ensures { result ≡ lex_le (e ∷ []) (slot slate.now i) }
-{
-    let k = i as usize;
-    if slot_length(slate, k) == 0 {
-        return false;
-    }
-    e <= slate[start(k)]
-}
-
 // The slots of the set whose strings the one byte e comes before, or is equal to.
 fn after_byte(slate: &[u8], set: u64, e: u8) -> u64
     requires { Slate slate.now }
     ensures { After (slot slate.now) set e result }
 {
-    let mut rest = set;
     let mut after = 0;
-    while rest != 0 {
-        let i = bitset::lowest(rest);
-        rest = bitset::without_lowest(rest);
-        if byte_before(slate, e, i) {
+    for i in bitset::ascending(set) {
+        if compare::less_or_equal(&[e], string(slate, i as usize)) {
             after = bitset::insert(after, i);
-            continue;
         }
     }
     after
 }
 
 // Puts the one byte e, wrapped.
+#[tactic(auto, using(crate::proofs::Writing::wrote_own), unfolding(crate::specs::Strings::wrap))]
 fn put_byte(slate: &mut [u8], e: u8, place: usize) -> usize
     requires { place + 3 ≤ length slate.old }
     ensures { Wrote slate.old place (wrap (e ∷ [])) result slate.new }

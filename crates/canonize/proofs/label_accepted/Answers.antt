@@ -1,0 +1,26 @@
+-- Row 13, row 14, and the label.
+use Rattle.std.proofs.Common.{sym}
+use Rattle.std.proofs.lemmas.Bool.{not-true, not-false}
+use Rattle.canonize.proofs.Answers.{answer_refused, answer_label, set_row, buffer_row, no_row}
+use Rattle.canonize.proofs.label_accepted.Goals as goal
+
+pub returns-then-not-is_fragment : goal.returns-then-not-is_fragment
+returns-then-not-is_fragment c =
+    let a = c.args in
+    let v = set_row a.bytes.now a.set a.out.now c.requires (not-false _ (sym c.if-not-is_fragment.ensures)) in
+    let w = answer_refused a.bytes.now a.set a.out.now 13 0 v in
+    record { answer = w.0; buffer = w.1 }
+
+pub returns-then-out-lt389 : goal.returns-then-out-lt389
+returns-then-out-lt389 c =
+    let a = c.args in
+    let v = buffer_row a.bytes.now a.set a.out.now c.requires (not-true _ (sym c.if-not-is_fragment.ensures)) c.if-out-lt389.true in
+    let w = answer_refused a.bytes.now a.set a.out.now 14 0 v in
+    record { answer = w.0; buffer = w.1 }
+
+pub returns : goal.returns
+returns c =
+    let a = c.args in
+    let v = no_row a.bytes.now a.set a.out.now c.requires (not-true _ (sym c.if-not-is_fragment.ensures)) c.if-out-lt389.false in
+    let w = answer_label a.bytes.now a.set a.out.now v _ _ c.label_out.ensures in
+    record { answer = w.0; buffer = w.1 }

@@ -1,0 +1,6 @@
+-- h is small enough for a turn.
+use Rattle.std.proofs.Common.{◌<◌}
+use Rattle.canonize.proofs.slate.spread.Given as goal
+
+abbrev pub invariant-loop-b : goal.invariant-loop-b
+invariant-loop-b l = l.h < 1099511627776
