@@ -1,17 +1,8 @@
 -- The candidates in their buckets: clearing the table, walking the chain of a bucket, and adding a candidate. Assumes nothing.
-use mathlib.Core.Path.{◌≡◌, refl, sym, ap, ◌∙◌}
-use mathlib.Core.Logic.{◌⊎◌, inl, inr, ◌≢◌}
-use mathlib.Core.Bool.{Bool, true, false}
-use mathlib.Core.List.{List, [], ◌∷◌, ◌++◌}
-use Prim.Native.Nat.{ℕ, zero, suc, ◌+◌, ◌-◌, ◌*◌, ◌/◌, ◌%◌, ◌≤◌, ◌<◌}
-use native.Mathlib.Nat.{mod-lt}
-use native.Mathlib.Decide.{ℕ_discrete}
-use native.Mathlib.Omega.{arith}
-use borrow.Author.Tests.{eq-eqb, ne_eqb}
-use lib.Dec.{eqb}
-use lib.ListN.{length, get_or, take, set, length-append, length-set, get_or-append}
-use lib.Seq.{take-length, take-suc, get_or_at, get_or-set_same, get_or-set_other}
-use Rattle.std.specs.Prelude.{Some, None}
+use Rattle.std.proofs.Common.{◌≡◌, refl, sym, ap, ◌∙◌, ◌⊎◌, inl, inr, ◌≢◌, Bool, true, false, List, [], ◌∷◌, ◌++◌, ℕ, zero, suc, ◌+◌, ◌-◌, ◌*◌, ◌/◌, ◌%◌, ◌≤◌, ◌<◌, mod-lt, arith, eq-eqb, ne_eqb, eqb, length, get_or, take, set, length-append, length-set, take-suc, get_or-set_same, get_or-set_other, Some, None}
+use Rattle.std.proofs.Math.Decide.{ℕ_discrete}
+use Rattle.std.proofs.Math.ListN.{get_or-append}
+use Rattle.std.proofs.Math.Seq.{take-length, get_or_at}
 use Rattle.clear.specs.Inner.Part.{zero_part}
 use Rattle.clear.proofs.Part.{part_length, part_below, part_zero, part_above}
 use Rattle.bitset.proofs.Bools.{two}

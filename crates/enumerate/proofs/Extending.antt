@@ -1,13 +1,7 @@
 -- Extending parents: a bond at a time, and a parent at a time. Assumes nothing.
-use mathlib.Core.Path.{◌≡◌, refl, sym, ap, ◌∙◌}
-use mathlib.Core.List.{List, [], ◌∷◌, map}
-use Prim.Native.Nat.{ℕ, ◌+◌, ◌^◌, ◌≤◌, ◌<◌}
-use native.Mathlib.Numerals.{add-one}
-use native.Mathlib.Omega.{arith}
-use lib.Bits.{bit_or, or_disjoint}
-use lib.ListN.{length, get_or}
-use lib.Seq.{slice, slice-cons, slice_empty}
-use Rattle.std.specs.Prelude.{Some, None}
+use Rattle.std.proofs.Common.{◌≡◌, refl, sym, ap, ◌∙◌, List, [], ◌∷◌, map, ℕ, ◌+◌, ◌^◌, ◌≤◌, ◌<◌, add-one, arith, bit_or, length, get_or, Some, None}
+use Rattle.std.specs.Int.Bits.{or_disjoint}
+use Rattle.std.proofs.Math.Seq.{slice, slice-cons, slice_empty}
 use Rattle.bitset.specs.Bits.{bit, Sub, members}
 use Rattle.bitset.proofs.Laws.{members_done}
 use Rattle.bitset.proofs.Members.{sub_in, one_is, apart_of}
