@@ -1,7 +1,6 @@
 -- The list that the table comes to hold is the match table's candidates. Assumes nothing.
-use mathlib.Core.Path.{◌≡◌, refl, ap, ◌∙◌}
-use mathlib.Core.List.{List, [], ◌∷◌, map, Memᴰ}
-use Prim.Native.Nat.{ℕ, ◌+◌, ◌^◌}
+use Rattle.std.proofs.Common.{◌≡◌, refl, ap, ◌∙◌, List, [], ◌∷◌, map, ℕ, ◌+◌, ◌^◌}
+use mathlib.Core.List.{Memᴰ}
 use Rattle.bitset.specs.Bits.{bit, members}
 use Rattle.molecule.specs.Lists.{Bytes, fold}
 use Rattle.molecule.specs.Touch.{touching}

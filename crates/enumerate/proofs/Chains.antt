@@ -1,16 +1,8 @@
 -- The candidates in their buckets: clearing the table, walking the chain of a bucket, and adding a candidate. Assumes nothing.
-use mathlib.Core.Path.{◌≡◌, refl, sym, ap, ◌∙◌}
-use mathlib.Core.Logic.{◌⊎◌, inl, inr, ◌≢◌}
-use mathlib.Core.Bool.{Bool, true, false}
-use mathlib.Core.List.{List, [], ◌∷◌, ◌++◌}
-use Prim.Native.Nat.{ℕ, zero, suc, ◌+◌, ◌-◌, ◌*◌, ◌/◌, ◌%◌, ◌≤◌, ◌<◌}
-use native.Mathlib.Nat.{mod-lt}
-use native.Mathlib.Decide.{ℕ_discrete}
-use native.Mathlib.Omega.{arith}
-use borrow.Author.Tests.{eq-eqb, ne_eqb}
-use lib.Dec.{eqb}
-use lib.ListN.{length, get_or, take, set, length-append, length-set, get_or-append}
-use lib.Seq.{take-length, take-suc, get_or_at, get_or-set_same, get_or-set_other}
+use Rattle.std.proofs.Common.{◌≡◌, refl, sym, ap, ◌∙◌, ◌⊎◌, inl, inr, ◌≢◌, Bool, true, false, List, [], ◌∷◌, ◌++◌, ℕ, zero, suc, ◌+◌, ◌-◌, ◌*◌, ◌/◌, ◌%◌, ◌≤◌, ◌<◌, mod-lt, arith, eq-eqb, ne_eqb, eqb, length, get_or, take, set, length-append, length-set, take-suc, get_or-set_same, get_or-set_other, Some, None}
+use Rattle.std.proofs.Math.Decide.{ℕ_discrete}
+use Rattle.std.proofs.Math.ListN.{get_or-append}
+use Rattle.std.proofs.Math.Seq.{take-length, get_or_at}
 use Rattle.clear.specs.Inner.Part.{zero_part}
 use Rattle.clear.proofs.Part.{part_length, part_below, part_zero, part_above}
 use Rattle.bitset.proofs.Bools.{two}
@@ -122,15 +114,12 @@ module _ (l : List ℕ) (p x : ℕ) where
     walking_is : k ≢ 0 → get_or l (k - 1) 0 ≡ x → true ≡ any (eqb x) l
     walking_is n e = sym (turn n ∙ ap (λ (y : ℕ). any (eqb x) (take (k - 1) l ++ (y ∷ []))) e ∙ any_hit x (take (k - 1) l))
 
-    pub walking_none : k ≡ 0 → false ≡ any (eqb x) l
-    walking_none e = sym (w.left ∙ ap (λ (m : ℕ). any (eqb x) (take m l)) e)
-
 -- the same by the words of the table
-module _ (parts : List ℕ) (p : ℕ) (l : List ℕ) (f : Bucketed parts p l) (x : ℕ) where
-  pub walking_start : Walking l p x (get_or parts (3 * p + bucket_of x p) 0)
-  walking_start = rw (f.last (bucket_of x p) (bucket_lt x p f.some)) (walking_last l p x (length l) (omega arith) (ap (any (eqb x)) (sym (take-length l))))
+module _ {parts : List ℕ} {p : ℕ} {l : List ℕ} (f : Bucketed parts p l) where
+  pub walking_start : (x : ℕ) → Walking l p x (get_or parts (3 * p + bucket_of x p) 0)
+  walking_start x = rw (f.last (bucket_of x p) (bucket_lt x p f.some)) (walking_last l p x (length l) (omega arith) (ap (any (eqb x)) (sym (take-length l))))
 
-  module _ (k : ℕ) (w : Walking l p x k) (n : k ≢ 0) where
+  module _ {x k : ℕ} (w : Walking l p x k) (n : k ≢ 0) where
     pub walking_hit : get_or parts (p + (k - 1)) 0 ≡ x → true ≡ any (eqb x) l
     walking_hit e = walking_is l p x k w n (sym (f.listed.sets (k - 1) (walking_within l p x k w n)) ∙ e)
 
@@ -161,8 +150,8 @@ bucketed_same {p = p} long same f = record {
 
 -- ---- clearing
 
-pub spared_same : (l : List ℕ) (p : ℕ) → Spared l l p
-spared_same l p = record { long = refl; nodes = λ i h. refl; rest = λ i h. refl }
+pub spared_same : {l : List ℕ} {p : ℕ} → Spared l l p
+spared_same = record { long = refl; nodes = λ i h. refl; rest = λ i h. refl }
 
 pub spared_then : {k l m : List ℕ} {p : ℕ} → Spared k l p → Spared l m p → Spared k m p
 spared_then v w = record {
@@ -180,9 +169,9 @@ spared_set l p i v h g = record {
 }
 
 -- the buckets are emptied
-pub emptied : (old now : List ℕ) (p : ℕ) → 0 < p → 4 * p ≤ length old → now ≡ zero_part old (3 * p) (4 * p) → Bucketed now p [] × Spared old now p
+pub emptied : {old now : List ℕ} {p : ℕ} → 0 < p → 4 * p ≤ length old → now ≡ zero_part old (3 * p) (4 * p) → Bucketed now p [] × Spared old now p
 unfolding last_in
-emptied old now p some wide e =
+emptied {old = old} {p = p} some wide e =
     let order : 3 * p ≤ 4 * p = omega arith in
     rw e (
       record {
@@ -317,19 +306,11 @@ module _ (parts : List ℕ) (p : ℕ) (l : List ℕ) (f : Bucketed parts p l) (n
 
 -- what adding answers: x is there; it is new and has room; it is new and has none
 module _ (parts : List ℕ) (p : ℕ) (l : List ℕ) (f : Bucketed parts p l) (n x : ℕ) (long_is : length l ≡ n) where
-  pub collected_old : true ≡ any (eqb x) l → Collected parts p (note l x) n
-  collected_old e = rw (note_known l x e) (record { count = λ h. sym long_is; found = λ h. f; over = λ h. omega arith })
+  pub collected_old : true ≡ any (eqb x) l → Collected parts p (note l x) (Some n)
+  collected_old e = rw (note_known l x e) (f, long_is)
 
-  pub collected_new : false ≡ any (eqb x) l → n < p → (h : ℕ) → h ≡ bucket_of x p → Collected (put_in parts p n x h) p (note l x) (n + 1)
-  collected_new e room h its = rw (note_fresh l x e) (record {
-    count = λ g. sym (more_length parts p l f n x h room long_is its);
-    found = λ g. bucketed_put parts p l f n x h room long_is its;
-    over = λ g. omega arith;
-  })
+  pub collected_new : false ≡ any (eqb x) l → n < p → (h : ℕ) → h ≡ bucket_of x p → Collected (put_in parts p n x h) p (note l x) (Some (n + 1))
+  collected_new e room h its = rw (note_fresh l x e) (bucketed_put parts p l f n x h room long_is its, more_length parts p l f n x h room long_is its)
 
-  pub collected_over : false ≡ any (eqb x) l → p ≤ n → Collected parts p (note l x) (n + 1)
-  collected_over e full = rw (note_fresh l x e) (record {
-    count = λ g. absurd (omega arith);
-    found = λ g. absurd (omega arith);
-    over = λ g. omega (arith, length-append l (x ∷ []));
-  })
+  pub collected_over : false ≡ any (eqb x) l → p ≤ n → Collected parts p (note l x) None
+  collected_over e full = rw (note_fresh l x e) (omega (arith, length-append l (x ∷ [])))

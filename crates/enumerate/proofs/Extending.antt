@@ -1,12 +1,7 @@
 -- Extending parents: a bond at a time, and a parent at a time. Assumes nothing.
-use mathlib.Core.Path.{◌≡◌, refl, sym, ap, ◌∙◌}
-use mathlib.Core.List.{List, [], ◌∷◌, map}
-use Prim.Native.Nat.{ℕ, ◌+◌, ◌^◌, ◌≤◌, ◌<◌}
-use native.Mathlib.Numerals.{add-one}
-use native.Mathlib.Omega.{arith}
-use lib.Bits.{bit_or, or_disjoint}
-use lib.ListN.{length, get_or}
-use lib.Seq.{slice, slice-cons, slice_empty}
+use Rattle.std.proofs.Common.{◌≡◌, refl, sym, ap, ◌∙◌, List, [], ◌∷◌, map, ℕ, ◌+◌, ◌^◌, ◌≤◌, ◌<◌, add-one, arith, bit_or, length, get_or, Some, None}
+use Rattle.std.specs.Int.Bits.{or_disjoint}
+use Rattle.std.proofs.Math.Seq.{slice, slice-cons, slice_empty}
 use Rattle.bitset.specs.Bits.{bit, Sub, members}
 use Rattle.bitset.proofs.Laws.{members_done}
 use Rattle.bitset.proofs.Members.{sub_in, one_is, apart_of}
@@ -55,28 +50,21 @@ module _ (near : ℕ → ℕ) where
 
     module _ {old : List ℕ} {p rest k : ℕ} (w : Extending parent l old p rest k) where
       -- bond b is the next; x is the parent with it
-      module _ (b next x : ℕ) (m : members rest ≡ b ∷ members next) (e : x ≡ parent + 2 ^ b) (now : List ℕ) (r : ℕ)
-          (q : (l : List ℕ) → Bucketed old p l → length l ≡ k → Collected now p (note l x) r) where
-        noted : Collected now p (note w.list x) r
-        noted = q w.list w.found w.count
-
+      module _ (b next x : ℕ) (m : members rest ≡ b ∷ members next) (e : x ≡ parent + 2 ^ b) (now : List ℕ) where
         then_left : fold note (note w.list x) (map (λ b. parent + 2 ^ b) (members next)) ≡ grown near l parent
         then_left = rw e (ap (λ (bs : List ℕ). fold note w.list (map (λ b. parent + 2 ^ b) bs)) (sym m) ∙ w.left)
 
-        pub extending_next : r ≤ p → Extending parent l now p next r
-        extending_next h = record { list = note w.list x; found = noted.found h; count = sym (noted.count h); left = then_left }
+        pub extending_next : (n : ℕ) → ((l : List ℕ) → Bucketed old p l → length l ≡ k → Collected now p (note l x) (Some n)) → Extending parent l now p next n
+        extending_next n q = let c = q w.list w.found w.count in record { list = note w.list x; found = c.0; count = c.1; left = then_left }
 
-        pub extending_over : p < r → Collected now p (grown near l parent) r
-        extending_over h = record {
-          count = λ g. absurd (omega arith);
-          found = λ g. absurd (omega arith);
-          over = λ g. omega (arith, noted.over h, notes_length (note w.list x) (map (λ b. parent + 2 ^ b) (members next)), ap (λ (y : List ℕ). length y) then_left);
-        }
+        pub extending_over : ((l : List ℕ) → Bucketed old p l → length l ≡ k → Collected now p (note l x) None) → Collected now p (grown near l parent) None
+        extending_over q =
+            omega (arith, q w.list w.found w.count, notes_length (note w.list x) (map (λ b. parent + 2 ^ b) (members next)), ap (λ (y : List ℕ). length y) then_left)
 
-      pub extending_done : rest ≡ 0 → Collected old p (grown near l parent) k
+      pub extending_done : rest ≡ 0 → Collected old p (grown near l parent) (Some k)
       extending_done e =
           let z : w.list ≡ grown near l parent = ap (λ (bs : List ℕ). fold note w.list (map (λ b. parent + 2 ^ b) bs)) (sym (members_done rest e)) ∙ w.left in
-          rw (← z) (record { count = λ g. sym w.count; found = λ g. w.found; over = λ g. omega (arith, w.count) })
+          rw (← z) (w.found, w.count)
 
   -- ---- a parent at a time
 
@@ -94,40 +82,30 @@ module _ (near : ℕ → ℕ) where
 
     module _ {now : List ℕ} {x k : ℕ} (w : Collecting old now p from to x k) where
       -- node x is extended
-      module _ (h : x < to) (g : to ≤ p) (then : List ℕ) (r : ℕ)
-          (q : Spared now then p × ((l : List ℕ) → Bucketed now p l → length l ≡ k → Collected then p (grown near l (get_or now x 0)) r)) where
+      module _ (h : x < to) (g : to ≤ p) (then : List ℕ) (kept : Spared now then p) where
         parent : get_or now x 0 ≡ get_or old x 0
         parent = w.kept.nodes x (omega arith)
 
-        counted : Collected then p (grown near w.list (get_or old x 0)) r
-        counted = rw parent at (q.1 w.list w.found w.count)
-
-        on_left : grown_by near (grown near w.list (get_or old x 0)) (slice (x + 1) to old) ≡ grown_by near [] (slice from to old)
+        on_left : grown_by near (grown near w.list (get_or now x 0)) (slice (x + 1) to old) ≡ grown_by near [] (slice from to old)
         unfolding grown_by
-        on_left = rw (add-one x) (ap (grown_by near w.list) (sym (slice-cons x to old 0 h (omega (arith, w.found.wide, w.kept.long)))) ∙ w.left)
+        on_left = rw (parent, add-one x) (ap (grown_by near w.list) (sym (slice-cons x to old 0 h (omega (arith, w.found.wide, w.kept.long)))) ∙ w.left)
 
-        pub collecting_next : r ≤ p → Collecting old then p from to (x + 1) r
-        collecting_next j = record {
-          list = grown near w.list (get_or old x 0);
-          found = counted.found j;
-          count = sym (counted.count j);
-          kept = spared_then w.kept q.0;
-          left = on_left;
-        }
+        pub collecting_next : (n : ℕ) → ((l : List ℕ) → Bucketed now p l → length l ≡ k → Collected then p (grown near l (get_or now x 0)) (Some n))
+            → Collecting old then p from to (x + 1) n
+        collecting_next n q =
+            let c = q w.list w.found w.count in
+            record { list = grown near w.list (get_or now x 0); found = c.0; count = c.1; kept = spared_then w.kept kept; left = on_left }
 
-        pub collecting_over : p < r → Spared old then p × Collected then p (grown_by near [] (slice from to old)) r
-        collecting_over j = (
-          spared_then w.kept q.0,
-          record {
-            count = λ i. absurd (omega arith);
-            found = λ i. absurd (omega arith);
-            over = λ i. omega (arith, counted.over j, grown_by_length (grown near w.list (get_or old x 0)) (slice (x + 1) to old), ap (λ (y : List ℕ). length y) on_left);
-          },
+        pub collecting_over : ((l : List ℕ) → Bucketed now p l → length l ≡ k → Collected then p (grown near l (get_or now x 0)) None)
+            → Spared old then p × Collected then p (grown_by near [] (slice from to old)) None
+        collecting_over q = (
+          spared_then w.kept kept,
+          omega (arith, q w.list w.found w.count, grown_by_length (grown near w.list (get_or now x 0)) (slice (x + 1) to old), ap (λ (y : List ℕ). length y) on_left),
         )
 
-      pub collecting_done : x ≡ to → Spared old now p × Collected now p (grown_by near [] (slice from to old)) k
+      pub collecting_done : x ≡ to → Spared old now p × Collected now p (grown_by near [] (slice from to old)) (Some k)
       unfolding grown_by
       collecting_done e =
           let n : slice x to old ≡ [] = rw e (slice_empty to old) in
           let z : w.list ≡ grown_by near [] (slice from to old) = ap (grown_by near w.list) (sym n) ∙ w.left in
-          (w.kept, rw (← z) (record { count = λ g. sym w.count; found = λ g. w.found; over = λ g. omega (arith, w.count) }))
+          (w.kept, rw (← z) (w.found, w.count))

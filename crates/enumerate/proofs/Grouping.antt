@@ -1,14 +1,8 @@
 -- The groups in the lent table: chains of members, a group that is joined, a group that is opened, hints, and the candidates one at a time. Assumes nothing.
-use mathlib.Core.Path.{◌≡◌, refl, sym, ap, ◌∙◌}
-use mathlib.Core.Logic.{◌⊎◌, inl, inr, ◌≢◌}
-use mathlib.Core.Bool.{true, false, false≢true}
-use mathlib.Core.List.{List, [], ◌∷◌, ◌++◌, Memᴰ}
-use Prim.Native.Nat.{ℕ, suc, ◌+◌, ◌-◌, ◌*◌, ◌≤◌, ◌<◌}
-use native.Mathlib.Decide.{ℕ_discrete, dec_lt}
-use native.Mathlib.Numerals.{add-one}
-use native.Mathlib.Omega.{arith}
-use lib.ListN.{length, get_or, set, drop, length-set, drop_of_length-le}
-use lib.Seq.{drop-cons, get_or-set_same, get_or-set_other}
+use Rattle.std.proofs.Common.{◌≡◌, refl, sym, ap, ◌∙◌, ◌⊎◌, inl, inr, ◌≢◌, true, false, List, [], ◌∷◌, ◌++◌, ℕ, suc, ◌+◌, ◌*◌, ◌≤◌, ◌<◌, add-one, arith, length, get_or, set, drop, length-set, drop-cons, get_or-set_same, get_or-set_other}
+use Rattle.std.proofs.lemmas.Bool.{false≢true}
+use mathlib.Core.List.{Memᴰ}
+use Rattle.std.proofs.Math.Decide.{ℕ_discrete, dec_lt}
 use Rattle.clear.specs.Inner.Part.{zero_part}
 use Rattle.clear.proofs.Part.{part_length, part_below, part_zero}
 use Rattle.molecule.specs.Lists.{Bytes, fold}
@@ -24,9 +18,6 @@ use Rattle.enumerate.proofs.Chains.{bucketed_same}
 use Rattle.enumerate.proofs.Placing.{position_of, put_at, put_length, put_before, put_this, put_after, Side, side, keys_of, grown_group, new_group, place_join, place_open, join_this, join_other, keyed_join, keyed_open}
 
 -- ---- what is not written
-
-pub around_same : (l : List ℕ) (p : ℕ) → Around l l p
-around_same l p = record { long = refl; low = λ i h. refl; middle = λ i h k. refl }
 
 pub outside_around : {old now : List ℕ} {p : ℕ} → Outside old now p → Around old now p
 outside_around o = record { long = o.long; low = o.low; middle = λ i h k. o.high i h }
@@ -134,67 +125,6 @@ module _ (parts : List ℕ) (p f i : ℕ) (wide : 7 * p ≤ length parts) (one :
 
 -- ---- a group is opened
 
--- the groups from j on have gone one up
-pub record Shifting (old now : List ℕ) (p g j : ℕ) : Type 0 where
-  pub long : length now ≡ length old
-  pub below : (m : ℕ) → m ≤ 4 * p + j → get_or now m 0 ≡ get_or old m 0
-  pub above : (m : ℕ) → 4 * p + g < m → get_or now m 0 ≡ get_or old m 0
-  pub moved : (m : ℕ) → j ≤ m → m < g → get_or now (4 * p + suc m) 0 ≡ get_or old (4 * p + m) 0
-
-pub shifting_start : (old : List ℕ) (p g : ℕ) → Shifting old old p g g
-shifting_start old p g = record { long = refl; below = λ m h. refl; above = λ m h. refl; moved = λ m h k. absurd (omega arith) }
-
-module _ (old now : List ℕ) (p g j : ℕ) (w : Shifting old now p g j) where
-  pub shifting_next : 4 * p + g < length old → 0 < j → j ≤ g → Shifting old (set now (4 * p + j) (get_or now (4 * p + j - 1) 0)) p g (j - 1)
-  shifting_next wide some few = record {
-    long = length-set now (4 * p + j) (get_or now (4 * p + j - 1) 0) ∙ w.long;
-    below = λ m h. get_or-set_other now (4 * p + j) m (get_or now (4 * p + j - 1) 0) 0 (λ q. omega (arith, q, h)) ∙ w.below m (omega (arith, h));
-    above = λ m h. get_or-set_other now (4 * p + j) m (get_or now (4 * p + j - 1) 0) 0 (λ q. omega (arith, q, h)) ∙ w.above m h;
-    moved = λ m h k. go m h k (ℕ_discrete (suc m) j);
-  }
-    where
-      go : (m : ℕ) → j - 1 ≤ m → m < g → Dec (suc m ≡ j) → get_or (set now (4 * p + j) (get_or now (4 * p + j - 1) 0)) (4 * p + suc m) 0 ≡ get_or old (4 * p + m) 0
-      go m h k (yes q) =
-          let a : 4 * p + j - 1 ≡ 4 * p + m = omega arith in
-          rw q (get_or-set_same now (4 * p + j) (get_or now (4 * p + j - 1) 0) 0 (omega (arith, w.long)) ∙ w.below (4 * p + j - 1) (omega arith) ∙ ap (λ (n : ℕ). get_or old n 0) a)
-      go m h k (no n) = get_or-set_other now (4 * p + j) (4 * p + suc m) (get_or now (4 * p + j - 1) 0) 0 (λ q. n (omega arith)) ∙ w.moved m (omega arith) k
-
-  -- the three words of the new group
-  module _ (k i : ℕ) (done : j ≡ k) (wide : 7 * p ≤ length old) (few : g < p) (in_reach : k ≤ g) (this : i < p) where
-    abbrev first_put : List ℕ
-    first_put = set now (4 * p + k) i
-
-    abbrev second_put : List ℕ
-    second_put = set first_put (5 * p + i) 0
-
-    abbrev third_put : List ℕ
-    third_put = set second_put (6 * p + i) i
-
-    first_long : length first_put ≡ length old
-    first_long = length-set now (4 * p + k) i ∙ w.long
-
-    put_long : length second_put ≡ length old
-    put_long = length-set first_put (5 * p + i) 0 ∙ first_long
-
-    word : (m : ℕ) → m ≢ 4 * p + k → m ≢ 5 * p + i → m ≢ 6 * p + i → get_or third_put m 0 ≡ get_or now m 0
-    word m a b c = get_or-set_other second_put (6 * p + i) m i 0 c ∙ get_or-set_other first_put (5 * p + i) m 0 0 b ∙ get_or-set_other now (4 * p + k) m i 0 a
-
-    pub shifting_done : GroupOpened old third_put p g k i
-    shifting_done = record {
-      outside = record {
-        long = length-set second_put (6 * p + i) i ∙ put_long;
-        low = λ m h. word m (λ q. omega (arith, q, h)) (λ q. omega (arith, q, h)) (λ q. omega (arith, q, h)) ∙ w.below m (omega (arith, h));
-        high = λ m h. word m (λ q. omega (arith, q, h)) (λ q. omega (arith, q, h)) (λ q. omega (arith, q, h)) ∙ w.above m (omega (arith, h));
-      };
-      first = get_or-set_other second_put (6 * p + i) (4 * p + k) i 0 (λ q. omega (arith, q)) ∙ get_or-set_other first_put (5 * p + i) (4 * p + k) 0 0 (λ q. omega (arith, q)) ∙ get_or-set_same now (4 * p + k) i 0 (omega (arith, w.long));
-      before = λ m h. word (4 * p + m) (λ q. omega (arith, q, h)) (λ q. omega (arith, q, h)) (λ q. omega (arith, q, h)) ∙ w.below (4 * p + m) (omega (arith, h));
-      after = λ m h a. word (4 * p + suc m) (λ q. omega (arith, q, h)) (λ q. omega (arith, q, a)) (λ q. omega (arith, q, a)) ∙ w.moved m (omega (arith, h)) a;
-      next = get_or-set_other second_put (6 * p + i) (5 * p + i) i 0 (λ q. omega (arith, q)) ∙ get_or-set_same first_put (5 * p + i) 0 0 (omega (arith, first_long));
-      nexts = λ m h. word (5 * p + m) (λ q. omega (arith, q, h)) (λ q. omega (arith, q, h)) (λ q. omega (arith, q, h)) ∙ w.above (5 * p + m) (omega (arith, h));
-      last = get_or-set_same second_put (6 * p + i) i 0 (omega (arith, put_long));
-      lasts = λ m h. word (6 * p + m) (λ q. omega (arith, q, h)) (λ q. omega (arith, q, h)) (λ q. omega (arith, q, h)) ∙ w.above (6 * p + m) (omega (arith, h));
-    }
-
 pub moved_open : {old now : List ℕ} {p g k i : ℕ} → k ≤ g → GroupOpened old now p g k i → Moved old now p g (g + 1) i
 moved_open {old} {now} {p} {g} {k} {i} b o = record { still = λ j h. go j h (dec_lt j k); new = λ n. (k, omega arith, o.first) }
   where
@@ -222,16 +152,15 @@ module _ (r : Bytes) {parts : List ℕ} {p g m j : ℕ} (w : Hints parts p g m) 
     connected = λ f e. let u = w.first j f here e in rw u.2 (v.connected u.0 u.1);
   }
 
-  pub leads_group : (x : Bytes) → HintLeads r parts p j x → (k : ℕ) × (k < g) × (get_or parts (9 * p + j) 0 ≡ suc (get_or parts (4 * p + k) 0))
-      × (same x (key_at r parts p k) ≡ true)
+  pub leads_group : (f : ℕ) (x : Bytes) → HintLeads r parts p j f x → (k : ℕ) × (k < g) × (f ≡ get_or parts (4 * p + k) 0) × (same x (key_at r parts p k) ≡ true)
   unfolding key_at
-  leads_group x d =
-      let u = w.first j d.0 here d.1 in
-      (u.0, u.1, d.1 ∙ ap (λ (f : ℕ). suc f) u.2, rw (← u.2) d.2)
+  leads_group f x d =
+      let u = w.first j f here d.0 in
+      (u.0, u.1, u.2, rw (← u.2) d.1)
 
 -- m words from region 9 on become 0
-pub forgotten : (old now : List ℕ) (p m : ℕ) → 12 * p ≤ length old → m ≤ 3 * p → now ≡ zero_part old (9 * p) (9 * p + m) → Around old now p × Hints now p 0 m
-forgotten old now p m wide room e =
+pub forgotten : {old now : List ℕ} {p m : ℕ} → 12 * p ≤ length old → m ≤ 3 * p → now ≡ zero_part old (9 * p) (9 * p + m) → Around old now p × Hints now p 0 m
+forgotten {old = old} {p = p} {m = m} wide room e =
     let order : 9 * p ≤ 9 * p + m = omega arith in
     let fits : 9 * p + m ≤ length old = omega arith in
     let below = part_below old (9 * p) (9 * p + m) order fits in
@@ -279,6 +208,9 @@ module _ (parts : List ℕ) (p j y : ℕ) where
           chain_cast a refl e (chain_same noted (i + 1) (omega arith) c (λ m b u. noted_word (5 * p + m) (omega arith)))
 
 -- ---- a candidate goes to its group
+
+pub first_in_parts : {r : Bytes} {parts : List ℕ} {p g : ℕ} → Firsts r parts p g → (k : ℕ) → k < g → p + get_or parts (4 * p + k) 0 < length parts
+first_in_parts w k h = omega (arith, w.within k h, w.wide)
 
 -- groups have different keys
 distinct : {r : Bytes} {gs : List Group} → Keyed r gs → (j k : ℕ) → j < length gs → k < length gs → j ≢ k → keys_of gs j ≡ keys_of gs k → ⊥
@@ -335,7 +267,7 @@ module _ {r : Bytes} {parts : List ℕ} {p : ℕ} {l : List ℕ} {i : ℕ} {gs :
 
   -- a group whose first member has the label is the label's place
   pub placing_position : (k : ℕ) → k < g → same x (key_at r parts p k) ≡ true → Position (key_at r parts p) g x k
-  placing_position = position_of (key_at r parts p) g x placing_firsts.ascend
+  placing_position = position_of placing_firsts.ascend
 
   -- members of different groups are different candidates
   apart : (j k a b : ℕ) → j < g → k < g → j ≢ k → Memᴰ (get_or l a 0) (group_at gs j).sets → Memᴰ (get_or l b 0) (group_at gs k).sets → a ≢ b
@@ -474,12 +406,11 @@ module _ {r : Bytes} {parts : List ℕ} {p : ℕ} {l : List ℕ} {i : ℕ} {gs :
 
   module _ {m : ℕ} (hints : Hints parts p g m) where
     -- hint j leads to its group, which it joins
-    pub hint_places : (j : ℕ) → j < m → HintLeads r parts p j x → (now : List ℕ) → now ≡ joined parts p (get_or parts (9 * p + j) 0 - 1) i
+    pub hint_places : (j f : ℕ) → j < m → HintLeads r parts p j f x → (now : List ℕ) → now ≡ joined parts p f i
         → Around parts now p × Hints now p g m × Places r parts now p i g g x
-    hint_places j here d now e =
-        let k = leads_group r hints here x d in
-        let f : get_or parts (9 * p + j) 0 - 1 ≡ get_or parts (4 * p + k.0) 0 = omega (arith, k.2) in
-        let b = join_places k.0 (placing_position w k.0 k.1 k.3) k.1 k.3 now (e ∙ ap (λ (z : ℕ). joined parts p z i) f) in
+    hint_places j f here d now e =
+        let k = leads_group r hints here f x d in
+        let b = join_places k.0 (placing_position w k.0 k.1 k.3) k.1 k.3 now (e ∙ ap (λ (z : ℕ). joined parts p z i) k.2) in
         (outside_around b.0, hints_moved b.0 b.1 hints, b.2)
 
     -- it was placed by order, and hint j becomes i + 1 where that opened a group
@@ -548,9 +479,3 @@ module _ {r : Bytes} {l : List ℕ} {p : ℕ} {now : List ℕ} where
           count = q.count;
           left = rw (z, add-one i) (ap (fold (λ gs y. place gs y (label r y)) w.list) (sym (drop-cons l i 0 h)) ∙ w.left);
         }
-
-    pub grouping_done : (n : ℕ) → i ≡ n → length l ≡ n → (g ≡ length (groups r l)) × Grouped r now p l n (groups r l)
-    grouping_done n e m =
-        let z : w.list ≡ groups r l = ap (fold (λ gs y. place gs y (label r y)) w.list) (sym (drop_of_length-le l {i = i} (omega arith))) ∙ w.left in
-        let d : Grouped r now p l n w.list = rw e at w.grouped in
-        (sym w.count ∙ ap (λ (gs : List Group). length gs) z, rw z at d)

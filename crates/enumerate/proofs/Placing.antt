@@ -1,13 +1,8 @@
 -- The groups as a list: the place of a label by binary search, and what placing a set does to the group there. Assumes nothing.
-use mathlib.Core.Path.{◌≡◌, refl, sym, ap, ◌∙◌}
-use mathlib.Core.Logic.{◌⊎◌, inl, inr, ⊎_elim}
-use mathlib.Core.Bool.{Bool, true, false, false≢true}
-use mathlib.Core.List.{List, [], ◌∷◌, ◌++◌, Memᴰ}
-use Prim.Native.Nat.{ℕ, zero, suc, ◌+◌, ◌-◌, ◌≤◌, ◌<◌}
-use native.Mathlib.Decide.{ℕ_discrete, dec_lt}
-use native.Mathlib.Omega.{arith}
-use lib.ListN.{length, set, length-set}
-use lib.Seq.{get_or-set_same, get_or-set_other}
+use Rattle.std.proofs.Common.{◌≡◌, refl, sym, ap, ◌∙◌, ◌⊎◌, inl, inr, ⊎_elim, Bool, true, false, List, [], ◌∷◌, ◌++◌, ℕ, zero, suc, ◌+◌, ◌-◌, ◌≤◌, ◌<◌, arith, length, set, length-set, get_or-set_same, get_or-set_other}
+use Rattle.std.proofs.lemmas.Bool.{false≢true}
+use mathlib.Core.List.{Memᴰ}
+use Rattle.std.proofs.Math.Decide.{ℕ_discrete, dec_lt}
 use Rattle.bitset.proofs.Bools.{two}
 use Rattle.molecule.specs.Lists.{Bytes}
 use Rattle.molecule.proofs.Lists.{at_mem}
@@ -42,17 +37,14 @@ pub record Searching (keys : ℕ → Bytes) (g : ℕ) (x : Bytes) (low high : �
   pub before : (j : ℕ) → j < low → lex_le x (keys j) ≡ false
   pub after : high < g → lex_le x (keys high) ≡ true
 
-module _ (keys : ℕ → Bytes) (g : ℕ) (x : Bytes) where
-  pub searching_start : Searching keys g x 0 g
-  searching_start = record { ordered = omega arith; within = omega arith; before = λ j h. absurd (omega arith); after = λ h. absurd (omega arith) }
-
+module _ {keys : ℕ → Bytes} {g : ℕ} {x : Bytes} where
   -- where the label is a key, that is its place
   pub position_of : ((j k : ℕ) → j < k → k < g → lex_le (keys k) (keys j) ≡ false) → (k : ℕ) → k < g → same x (keys k) ≡ true → Position keys g x k
   position_of ascend k h t =
       let e : x ≡ keys k = (same_iff x (keys k)).0 t in
       record { within = omega arith; before = λ j i. rw e (ascend j k i h); after = λ i. rw e (le_refl (keys k)) }
 
-  module _ (low high : ℕ) (w : Searching keys g x low high) where
+  module _ {low high : ℕ} (w : Searching keys g x low high) where
     pub searching_up : ((j k : ℕ) → j < k → k < g → lex_le (keys k) (keys j) ≡ false) → (m : ℕ) → m < high → lex_le x (keys m) ≡ false → Searching keys g x (m + 1) high
     searching_up ascend m h f = record { ordered = omega arith; within = w.within; before = λ j k. go j (ℕ_discrete j m) k (two (lex_le x (keys j))); after = w.after }
       where
@@ -63,11 +55,6 @@ module _ (keys : ℕ → Bytes) (g : ℕ) (x : Bytes) where
 
     pub searching_down : (m : ℕ) → low ≤ m → m < high → lex_le x (keys m) ≡ true → Searching keys g x low m
     searching_down m h k t = record { ordered = h; within = omega (arith, w.within); before = w.before; after = λ i. t }
-
-    pub searching_done : high ≤ low → Position keys g x low
-    searching_done h =
-        let e : low ≡ high = omega (arith, w.ordered) in
-        record { within = omega (arith, w.within); before = w.before; after = λ i. rw e (w.after (rw e at i)) }
 
 -- ---- groups by number
 

@@ -7,11 +7,12 @@ ghost use Rattle.matches.specs.Table.{note};
 ghost use Rattle.enumerate.specs.Inner.Bucketed.{bucket_of, Bucketed, Filled, Spared, Collected, grown, grown_by};
 
 // The bucket of x.
+#[tactic(auto, unfolding(crate::specs::Inner::Bucketed::bucket_of))]
 fn bucket(x: u64, p: usize) -> usize
     requires { 0 < p }
     ensures { (result ≡ bucket_of x p) × (result < p) }
 {
-    (x % 4_294_967_291 * 2_654_435_761 / 4_294_967_296 % (p as u64)) as usize
+    (x % 4_294_967_291 * 2_654_435_761 / 4_294_967_296 % p as u64) as usize
 }
 
 // Whether x is among them.
@@ -20,6 +21,7 @@ fn known(parts: &[u64], p: usize, x: u64) -> bool
     ensures { (l : List ℕ) → Bucketed parts.now p l → result ≡ any (eqb x) l }
 {
     let mut k = parts[3 * p + bucket(x, p)];
+    // A while: it follows the chain of the bucket.
     while k != 0 {
         let i = (k - 1) as usize;
         if parts[p + i] == x {
@@ -30,62 +32,63 @@ fn known(parts: &[u64], p: usize, x: u64) -> bool
     false
 }
 
-// Adds x, unless it is there. The answer is how many there are then, p + 1 where there is no room.
-fn note(parts: &mut [u64], p: usize, count: usize, x: u64) -> usize
+// Adds x, unless it is there. The answer is how many there are then, None where there is no room.
+fn note(parts: &mut [u64], p: usize, count: usize, x: u64) -> Option<usize>
     requires { Filled parts.old p count }
     ensures { Spared parts.old parts.new p
         × ((l : List ℕ) → Bucketed parts.old p l → length l ≡ count → Collected parts.new p (note l x) result) }
 {
     if known(parts, p, x) {
-        return count;
+        return Some(count);
     }
-    if count < p {
-        let h = bucket(x, p);
-        let last = parts[3 * p + h];
-        parts[p + count] = x;
-        parts[2 * p + count] = last;
-        parts[3 * p + h] = count as u64 + 1;
-        return count + 1;
+    if p <= count {
+        return None;
     }
-    count + 1
+    let h = bucket(x, p);
+    let last = parts[3 * p + h];
+    parts[p + count] = x;
+    parts[2 * p + count] = last;
+    parts[3 * p + h] = count as u64 + 1;
+    Some(count + 1)
 }
 
-// A parent extended by each touching bond, ascending. The answer is how many there are then, more than p where there is no room.
-pub fn extend(touch: &[u64; 64], parts: &mut [u64], p: usize, count: usize, parent: u64) -> usize
+// A parent extended by each touching bond, ascending. The answer is how many there are then, None where there is no room.
+pub fn extend(
+    touch: &[u64; 64],
+    parts: &mut [u64],
+    p: usize,
+    count: usize,
+    parent: u64,
+) -> Option<usize>
     requires { Filled parts.old p count }
     ensures { Spared parts.old parts.new p
         × ((l : List ℕ) → Bucketed parts.old p l → length l ≡ count
         → Collected parts.new p (grown (λ (i : ℕ). get_or touch.now i 0) l parent) result) }
 {
-    let mut rest = molecule::graph::around(touch, parent);
     let mut k = count;
-    while rest != 0 {
-        let b = bitset::lowest(rest);
-        rest = bitset::without_lowest(rest);
-        k = note(parts, p, k, bitset::insert(parent, b));
-        if p < k {
-            return k;
-        }
+    for b in bitset::ascending(molecule::graph::around(touch, parent)) {
+        k = note(parts, p, k, bitset::insert(parent, b))?;
     }
-    k
+    Some(k)
 }
 
-// The candidates that the nodes from .. to give as parents. The answer is how many there are, more than p where there is no room.
-pub fn candidates(touch: &[u64; 64], parts: &mut [u64], p: usize, from: usize, to: usize) -> usize
+// The candidates that the nodes from .. to give as parents. The answer is how many there are, None where there is no room.
+pub fn candidates(
+    touch: &[u64; 64],
+    parts: &mut [u64],
+    p: usize,
+    from: usize,
+    to: usize,
+) -> Option<usize>
     requires { (0 < p) × (4 * p ≤ length parts.old) × (from ≤ to) × (to ≤ p) }
     ensures { Spared parts.old parts.new p
         × Collected parts.new p (grown_by (λ (i : ℕ). get_or touch.now i 0) [] (slice from to parts.old)) result }
 {
     clear::zero_part(parts, 3 * p, 4 * p);
     let mut count = 0;
-    let mut x = from;
-    while x < to {
+    for x in from..to {
         let parent = parts[x];
-        count = extend(touch, parts, p, count, parent);
-        if p < count {
-            return count;
-        }
-        x += 1;
+        count = extend(touch, parts, p, count, parent)?;
     }
-    count
+    Some(count)
 }

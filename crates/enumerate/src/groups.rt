@@ -1,7 +1,7 @@
 // The candidates grouped by label, groups ascending, members in order found. Regions of p words: 4 for each group the index of its first member, 5 for each
 // candidate 1 more than the index of the next member of its group, 0 for none, 6 for each first member the index of its group's last member,
 // 9 to 11 hints: at the place of a label 1 more than the index of the first member of a group that may have that label, 0 for none.
-ghost use Rattle.std.specs.Prelude.{◌≡◌, true, List, ℕ, ◌+◌, ◌*◌, ◌≤◌, ◌<◌, length, get_or};
+ghost use Rattle.std.specs.Prelude.{◌≡◌, IfSome, List, ℕ, ◌+◌, ◌*◌, ◌≤◌, ◌<◌, length, get_or};
 ghost use Rattle.molecule.specs.Touch.{bonds_at_words};
 ghost use Rattle.molecule.specs.Check.{check, accepted};
 ghost use Rattle.canonize.specs.Inner.Slate.{Slate, kept, Keeps};
@@ -24,14 +24,15 @@ fn position(
 {
     let mut low = 0;
     let mut high = g;
+    // A while: partition_point asks for a test that may be called at any number, and this one may be called at the numbers of candidates only.
     while low < high {
         let middle = low + (high - low) / 2;
         let i = parts[4 * p + middle] as usize;
         if canonize::slate::is_before(bytes, at, parts[p + i], slate) {
             low = middle + 1;
-            continue;
+        } else {
+            high = middle;
         }
-        high = middle;
     }
     low
 }
@@ -41,18 +42,14 @@ fn open(parts: &mut [u64], p: usize, g: usize, k: usize, i: usize)
     requires { (7 * p ≤ length parts.old) × (g < p) × (k ≤ g) × (i < p) }
     ensures { GroupOpened parts.old parts.new p g k i }
 {
-    let mut j = g;
-    while k < j {
-        let before = parts[4 * p + j - 1];
-        parts[4 * p + j] = before;
-        j -= 1;
-    }
+    parts.copy_within(4 * p + k..4 * p + g, 4 * p + k + 1);
     parts[4 * p + k] = i as u64;
     parts[5 * p + i] = 0;
     parts[6 * p + i] = i as u64;
 }
 
 // Puts candidate i at the end of the group whose first member is f.
+#[tactic(auto, unfolding(crate::specs::Inner::Grouped::joined))]
 fn join(parts: &mut [u64], p: usize, f: usize, i: usize)
     requires { (7 * p ≤ length parts.old) × (f < p) × (i < p) × (get_or parts.old (6 * p + f) 0 < p) }
     ensures { parts.new ≡ joined parts.old p f i }
@@ -87,25 +84,26 @@ fn place_by_order(
             join(parts, p, f, i);
             return g;
         }
-        open(parts, p, g, k, i);
-        return g + 1;
     }
     open(parts, p, g, k, i);
     g + 1
 }
 
-// Whether hint j leads to a candidate with the label that is kept.
-fn leads(bytes: &[u8], at: &[u64; 65], parts: &[u64], p: usize, j: usize, slate: &mut [u8]) -> bool
+// The first member of the group that hint j leads to, where its label is the one that is kept.
+fn leads_to(
+    bytes: &[u8],
+    at: &[u64; 65],
+    parts: &[u64],
+    p: usize,
+    j: usize,
+    slate: &mut [u8],
+) -> Option<usize>
     requires { (check bytes.now ≡ accepted) × (at.now ≡ bonds_at_words bytes.now) × Hinted bytes.now parts.now p j × Slate slate.old }
-    ensures leads { result ≡ true → HintLeads bytes.now parts.now p j (kept slate.old) }
+    ensures leads { IfSome result (λ f. HintLeads bytes.now parts.now p j f (kept slate.old)) }
     ensures keeps { Keeps slate.new (kept slate.old) }
 {
-    let hint = parts[9 * p + j] as usize;
-    if hint == 0 {
-        return false;
-    }
-    let f = hint - 1;
-    canonize::slate::is_kept(bytes, at, parts[p + f], slate)
+    let f = (parts[9 * p + j] as usize).checked_sub(1)?;
+    canonize::slate::is_kept(bytes, at, parts[p + f], slate).then_some(f)
 }
 
 // Candidate i, whose label is kept, goes to its group, by the hint where that leads there. The answer is how many groups there are then.
@@ -128,8 +126,7 @@ fn place(
     ensures serves { Slate slate.new }
 {
     let j = canonize::slate::spread(slate, m);
-    if leads(bytes, at, parts, p, j, slate) {
-        let f = parts[9 * p + j] as usize - 1;
+    if let Some(f) = leads_to(bytes, at, parts, p, j, slate) {
         join(parts, p, f, i);
         return g;
     }
@@ -160,11 +157,9 @@ pub fn group(
     let m = 3 * count;
     clear::zero_part(parts, 9 * p, 9 * p + m);
     let mut g = 0;
-    let mut i = 0;
-    while i < count {
+    for i in 0..count {
         canonize::slate::keep(bytes, at, parts[p + i], slate);
         g = place(bytes, at, parts, p, m, g, i, slate);
-        i += 1;
     }
     g
 }

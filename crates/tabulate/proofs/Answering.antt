@@ -1,9 +1,5 @@
 -- What `build` answers, row by row, and what it leaves in pairs. Assumes nothing.
-use mathlib.Core.Path.{◌≡◌, refl, sym, ap, ◌∙◌, subst}
-use mathlib.Core.List.{List, [], ◌∷◌, ◌++◌}
-use Prim.Native.Nat.{ℕ, ◌*◌, ◌≤◌, ◌<◌}
-use native.Mathlib.Omega.{arith}
-use lib.ListN.{length, get_or, drop, length-append, length-drop}
+use Rattle.std.proofs.Common.{◌≡◌, refl, sym, ap, ◌∙◌, subst, List, [], ◌∷◌, ◌++◌, ℕ, ◌*◌, ◌≤◌, ◌<◌, arith, length, get_or, drop, length-append, length-drop}
 use Rattle.molecule.specs.Lists.{Bytes}
 use Rattle.molecule.specs.Record.{bonds}
 use Rattle.molecule.specs.Check.{Answer, accepted, refused, check}
@@ -11,6 +7,7 @@ use Rattle.matches.specs.Table.{Table, match_table, pairs}
 use Rattle.matches.specs.Rows.{parts_room, pairs_room, table_answer}
 use Rattle.matches.specs.Inner.Written.{words_of, matches_in, StartsBefore, Recorded}
 use Rattle.tabulate.specs.Built.{counted, turned_back, build_answer}
+use Rattle.tabulate.specs.declared.nodes.Done.{Done}
 use Rattle.tabulate.specs.Inner.PairsLeft.{match_words, pairs_after}
 use Rattle.tabulate.specs.Inner.Walked.{WholeTable, NoRoom}
 use Rattle.matches.proofs.Laws.{parts_over, pairs_over, all_fit, table_fits}
@@ -86,30 +83,30 @@ module _ (r : Bytes) (parts : ℕ) (old : List ℕ) where
     pub answer_parts : (k : ℕ) → NoRoom r p k → (turned_back 9 k ≡ build_answer r parts (length old)) × (old ≡ pairs_after r parts old)
     answer_parts k o = answer_refused 9 k (parts_over (match_table r) parts (length old) k o.place (omega (arith, o.exceeds)) (λ i l. omega (arith, o.before i l)))
 
-    module _ (now : List ℕ) (nodes n : ℕ) (w : WholeTable r now p nodes n) where
+    module _ {now : List ℕ} {d : Done} (w : WholeTable r now p d) where
       -- row 10
-      pub answer_pairs : pairs_room (length old) < n → (turned_back 10 n ≡ build_answer r parts (length old)) × (old ≡ pairs_after r parts old)
+      pub answer_pairs : pairs_room (length old) < d.matches → (turned_back 10 d.matches ≡ build_answer r parts (length old)) × (old ≡ pairs_after r parts old)
       answer_pairs h =
           rw w.count (answer_refused 10 (length (match_table r).matches) (pairs_over (match_table r) parts (length old) (λ i l. omega (arith, w.fits i l)) (omega (arith, w.count))))
 
-      module _ (ok : check r ≡ accepted) (fits : n ≤ pairs_room (length old)) where
+      module _ (ok : check r ≡ accepted) (fits : d.matches ≤ pairs_room (length old)) where
         -- what `write` requires
-        pub write_starts : StartsBefore now p nodes
-        write_starts = starts_before r ok now p nodes w.all w.here w.starts
+        pub write_starts : StartsBefore now p d.nodes
+        write_starts = starts_before r ok now p d.nodes w.all w.here w.starts
 
-        write_matches : matches_in now p nodes ≡ (match_table r).matches
-        write_matches = matches_in_lem r ok now p nodes w.all w.here w.starts
+        write_matches : matches_in now p d.nodes ≡ (match_table r).matches
+        write_matches = matches_in_lem r ok now p d.nodes w.all w.here w.starts
 
-        pub write_room : 4 * length (matches_in now p nodes) ≤ length old
+        pub write_room : 4 * length (matches_in now p d.nodes) ≤ length old
         write_room = omega (arith, ap length write_matches, w.count, room_pairs (length old))
 
         -- neither row: by what `write` ensures
-        pub answer_count : (m : ℕ) (after : List ℕ) → m ≡ length (matches_in now p nodes) → after ≡ words_of now (matches_in now p nodes) ++ drop (4 * m) old → (counted n ≡ build_answer r parts (length old)) × (after ≡ pairs_after r parts old)
+        pub answer_count : (m : ℕ) (after : List ℕ) → m ≡ length (matches_in now p d.nodes) → after ≡ words_of now (matches_in now p d.nodes) ++ drop (4 * m) old → (counted d.matches ≡ build_answer r parts (length old)) × (after ≡ pairs_after r parts old)
         unfolding match_words
         answer_count m after c e =
             let a = all_fit (match_table r) parts (length old) (λ i l. omega (arith, w.fits i l)) (omega (arith, w.count)) in
             let f : 4 * m ≡ length (match_words r) = omega (arith, ap length write_matches, words_many r) in
-            (ap counted w.count ∙ sym (counts r parts (length old) a), e ∙ rw (words_in r ok now p nodes w.all w.here w.starts, f) (sym (after_is a)))
+            (ap counted w.count ∙ sym (counts r parts (length old) a), e ∙ rw (words_in r ok now p d.nodes w.all w.here w.starts, f) (sym (after_is a)))
 
 -- ---- for the crates above
 

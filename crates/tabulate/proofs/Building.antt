@@ -1,11 +1,7 @@
 -- The loop over sizes: it ends, with the table before its matches are sorted or at the first size that has no room, and the matches fit a word. Assumes nothing.
-use mathlib.Core.Path.{◌≡◌, refl, sym, ap, ◌∙◌, subst}
-use mathlib.Core.List.{List, [], ◌∷◌, Memᴰ as Mem}
-use Prim.Native.Nat.{ℕ, zero, suc, ◌+◌, ◌*◌, ◌^◌, ◌≤◌, ◌<◌}
-use native.Mathlib.Nat.{mul-le-mul}
-use native.Mathlib.Decide.{dec_lt}
-use native.Mathlib.Omega.{arith}
-use lib.ListN.{length, get_or, length-append}
+use Rattle.std.proofs.Common.{◌≡◌, refl, sym, ap, ◌∙◌, subst, List, [], ◌∷◌, ℕ, zero, suc, ◌+◌, ◌*◌, ◌^◌, ◌≤◌, ◌<◌, mul-le-mul, arith, length, get_or, length-append}
+use mathlib.Core.List.{Memᴰ as Mem}
+use Rattle.std.proofs.Math.Decide.{dec_lt}
 use Rattle.molecule.specs.Lists.{Bytes}
 use Rattle.molecule.specs.Record.{bonds}
 use Rattle.molecule.proofs.Lists.{sort_perm}
@@ -13,8 +9,9 @@ use Rattle.molecule.proofs.Perms.{Distinct, perm_length, distinct_le}
 use Rattle.matches.specs.Table.{Table, Match, not_below, sizes, singles, match_table}
 use Rattle.matches.specs.Inner.Descending.{countdown, with_each, descend, Starts}
 use Rattle.matches.specs.Inner.Written.{start_in}
-use Rattle.tabulate.specs.Inner.Stage.{table_at, nodes_at, Stage, Sizing, NextSize}
-use Rattle.tabulate.specs.Inner.Walked.{WholeTable, NoRoom, Walked}
+use Rattle.tabulate.specs.declared.nodes.Done.{Done}
+use Rattle.tabulate.specs.Inner.Stage.{table_at, nodes_at, Stage, Sizing, Found, Overflowing}
+use Rattle.tabulate.specs.Inner.Walked.{WholeTable, NoRoom}
 use Rattle.matches.proofs.Laws.{Grows, grows_refl}
 use Rattle.matches.proofs.Laws.{Round, next, newest, round_next, sizes_grows, last_parents, sizes_enough, start, start_round, unsorted}
 use Rattle.tabulate.proofs.Stages.{singles_length, parents_at, table_zero, nodes_zero, nodes_suc, parents_count, table_done, table_round, table_round_next}
@@ -99,7 +96,7 @@ module _ (r : Bytes) where
 
   module _ {parts : List ℕ} {p size from to total : ℕ} (w : Walking parts p size from to total) where
     -- all had room
-    pub walking_end : to ≤ from → WholeTable r parts p to total
+    pub walking_end : to ≤ from → WholeTable r parts p (record { nodes = to; matches = total })
     walking_end h =
         let e : table_at r w.stage ≡ unsorted r = at_end w.stage (omega (arith, w.older, w.all)) in
         let n : (table_at r w.stage).nodes ≡ (match_table r).nodes = ap (λ (t : Table). t.nodes) e ∙ sym (nodes_are r) in
@@ -130,46 +127,26 @@ module _ (r : Bytes) where
               let e = last_parents r (suc w.stage) (table_at r w.stage) (parents_at r w.stage) (omega arith) (table_round r w.stage parents) in
               absurd (omega (arith, ap length e, parents_count r w.stage, parents))
 
-      module _ {now : List ℕ} {nodes matches : ℕ} (s : NextSize r now p w.stage nodes matches) where
-        -- this size has no room
-        pub walking_over : p < nodes → NoRoom r p size
-        walking_over o =
-            let k : ℕ = w.stage in
-            let a = need_at (suc k) (suc (suc k)) (s.place o) in
-            let c : length (table_at r k).needs ≡ suc (suc k) = (table_round r k parents).count in
-            rw w.is record {
-              place = a.0;
-              exceeds = omega (arith, a.1, s.over o);
-              before = λ i l. let b = need_at k i (omega arith) in omega (arith, b.1, w.held.fits i (omega arith));
-            }
+      -- this size has no room
+      pub walking_over : Overflowing r p w.stage → NoRoom r p size
+      walking_over s =
+          let k : ℕ = w.stage in
+          let a = need_at (suc k) (suc (suc k)) s.place in
+          let c : length (table_at r k).needs ≡ suc (suc k) = (table_round r k parents).count in
+          rw w.is record {
+            place = a.0;
+            exceeds = omega (arith, a.1, s.over);
+            before = λ i l. let b = need_at k i (omega arith) in omega (arith, b.1, w.held.fits i (omega arith));
+          }
 
-        -- it has room: the next size
-        pub walking_next : nodes ≤ p → Walking now p (size + 1) to nodes (total + matches)
-        walking_next f = record {
-          stage = suc w.stage;
-          is = omega (arith, w.is);
-          held = s.held f;
-          older = w.all;
-          all = s.all f;
-          few = f;
-          count = omega (arith, w.count, s.more f);
-        }
-
-        -- and all matches so far, each of two nodes, fit a word
-        pub walking_count : nodes ≤ p → total + matches < 2 ^ 64
-        walking_count f =
+      module _ {now : List ℕ} {d : Done} (s : Found r now p w.stage d) where
+        -- where it has room, all matches so far, each of two nodes, fit a word
+        pub walking_count : total + d.matches < 2 ^ 64
+        walking_count =
             let k : ℕ = w.stage in
             let t : Table = table_at r (suc k) in
-            let d = table_round_next r k parents in
-            let n : length t.nodes ≤ 4294967295 = omega (arith, s.all f, nodes_suc r (suc k), w.held.clamped) in
-            let a : length t.matches ≤ length t.nodes * length t.nodes = matches_few (length t.nodes) t.matches d.once (λ m i. let q = d.sound m i in (q.fits, omega (arith, q.fits, q.below))) in
+            let q = table_round_next r k parents in
+            let n : length t.nodes ≤ 4294967295 = omega (arith, s.all, s.few, nodes_suc r (suc k), w.held.clamped) in
+            let a : length t.matches ≤ length t.nodes * length t.nodes = matches_few (length t.nodes) t.matches q.once (λ m i. let u = q.sound m i in (u.fits, omega (arith, u.fits, u.below))) in
             let b : length t.nodes * length t.nodes ≤ 4294967295 * 4294967295 = mul-le-mul n n in
-            omega (arith, w.count, s.more f)
-
-  -- ---- its two ends
-
-  pub walked_whole : {parts : List ℕ} {p nodes matches : ℕ} → WholeTable r parts p nodes matches → Walked r parts p 0 nodes matches
-  walked_whole w = record { whole = λ e. w; first = λ l. absurd (omega arith) }
-
-  pub walked_over : {parts : List ℕ} {p k nodes matches : ℕ} → NoRoom r p k → 0 < k → Walked r parts p k nodes matches
-  walked_over o h = record { whole = λ e. absurd (omega arith); first = λ l. o }
+            omega (arith, w.count, s.more)

@@ -1,8 +1,5 @@
 -- count's answer, row by row, and the lent tables afterwards. Assumes nothing.
-use mathlib.Core.Path.{◌≡◌, ap, ◌∙◌}
-use mathlib.Core.List.{List}
-use Prim.Native.Nat.{ℕ}
-use lib.ListN.{length, replicate}
+use Rattle.std.proofs.Common.{◌≡◌, ap, ◌∙◌, List, ℕ, length, replicate}
 use Rattle.molecule.specs.Lists.{Bytes}
 use Rattle.molecule.specs.Check.{accepted, refused, check}
 use Rattle.tabulate.specs.Built.{turned_back, build_answer}

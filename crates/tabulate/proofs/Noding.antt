@@ -1,14 +1,8 @@
 -- Candidates that become nodes: the nodes and matches of the definition by lists, and naming a candidate. Assumes nothing.
-use mathlib.Core.Path.{◌≡◌, refl, sym, ap, ◌∙◌}
-use mathlib.Core.Logic.{◌⊎◌, inl, inr, ◌≢◌}
-use mathlib.Core.Bool.{true, false}
-use mathlib.Core.List.{List, [], ◌∷◌, ◌++◌}
-use Prim.Native.Nat.{ℕ, suc, ◌+◌, ◌-◌, ◌*◌, ◌≤◌, ◌<◌}
-use native.Mathlib.Decide.{ℕ_discrete}
-use native.Mathlib.Omega.{arith}
-use lib.Dec.{eqb}
-use lib.ListN.{length, get_or, set, length-append, length-set, get_or-append}
-use lib.Seq.{get_or_at, get_or-set_same, get_or-set_other}
+use Rattle.std.proofs.Common.{◌≡◌, refl, sym, ap, ◌∙◌, ◌⊎◌, inl, inr, ◌≢◌, true, false, List, [], ◌∷◌, ◌++◌, ℕ, suc, ◌+◌, ◌-◌, ◌*◌, ◌≤◌, ◌<◌, arith, eqb, length, get_or, set, length-append, length-set, get_or-set_same, get_or-set_other, Some}
+use Rattle.std.proofs.Math.Decide.{ℕ_discrete}
+use Rattle.std.proofs.Math.ListN.{get_or-append}
+use Rattle.std.proofs.Math.Seq.{get_or_at}
 use Rattle.clear.specs.Inner.Part.{zero_part}
 use Rattle.clear.proofs.Part.{part_length, part_below, part_zero, part_above}
 use Rattle.bitset.specs.Bits.{is_disjoint}
@@ -119,8 +113,8 @@ of_length (g ∷ gs) nodes = omega (arith, after_length g.sets nodes, of_length 
 
 -- ---- words
 
-pub beside_same : (l : List ℕ) (p count : ℕ) → Beside l l p count
-beside_same l p count = record { long = refl; nodes = λ i h g. refl; middle = λ i h g. refl; starts = λ i h g. refl; rest = λ i h. refl }
+pub beside_same : {l : List ℕ} {p count : ℕ} → Beside l l p count
+beside_same = record { long = refl; nodes = λ i h g. refl; middle = λ i h g. refl; starts = λ i h g. refl; rest = λ i h. refl }
 
 pub beside_then : {k l m : List ℕ} {p c d : ℕ} → c ≤ d → Beside k l p c → Beside l m p d → Beside k m p c
 beside_then h v w = record {
@@ -202,18 +196,17 @@ module _ (parts : List ℕ) (p i s n : ℕ) (room : n < p) (low : i < p) where
         ∙ get_or-set_other (set parts n (get_or parts (p + i) 0)) (8 * p + n) n s 0 (λ e. omega arith)
         ∙ get_or-set_same parts n (get_or parts (p + i) 0) 0 (omega arith)
 
-module _ (parts : List ℕ) (p : ℕ) (l nodes : List ℕ) (i s n : ℕ) (w : Naming parts p l nodes i n) where
+module _ {parts : List ℕ} {p : ℕ} {l nodes : List ℕ} {i n : ℕ} (w : Naming parts p l nodes i n) where
   flag : get_or parts (7 * p + i) 0 ≡ flag_of nodes (get_or l i 0)
   flag = w.noded.flags i w.within
 
   -- it is a node already
-  pub name_old : get_or parts (7 * p + i) 0 ≢ 0 → Named parts p l (note nodes (get_or l i 0)) s n n
+  pub name_old : {s : ℕ} → get_or parts (7 * p + i) 0 ≢ 0 → Named parts p l (note nodes (get_or l i 0)) s n (Some n)
   name_old h = rw (note_known nodes (get_or l i 0) (flag_yes nodes (get_or l i 0) (λ e. h (flag ∙ e)))) (record {
-    long = λ g. sym w.long;
-    more = λ g. omega arith;
-    noded = λ g. w.noded;
-    starts = λ g k h j. absurd (omega arith);
-    over = λ g. omega (arith, w.long);
+    long = w.long;
+    more = omega arith;
+    noded = w.noded;
+    starts = λ k g j. absurd (omega arith);
   })
 
   module _ (h : get_or parts (7 * p + i) 0 ≡ 0) where
@@ -224,16 +217,10 @@ module _ (parts : List ℕ) (p : ℕ) (l nodes : List ℕ) (i s n : ℕ) (w : Na
     more_length = length-append nodes (get_or l i 0 ∷ []) ∙ omega (arith, w.long)
 
     -- there is no room
-    pub name_over : p ≤ n → Named parts p l (note nodes (get_or l i 0)) s n (n + 1)
-    name_over g = rw fresh (record {
-      long = λ k. sym more_length;
-      more = λ k. omega arith;
-      noded = λ k. absurd (omega arith);
-      starts = λ k. absurd (omega arith);
-      over = λ k. omega (arith, more_length);
-    })
+    pub name_over : p ≤ n → p < length (note nodes (get_or l i 0))
+    name_over g = rw fresh (omega (arith, more_length))
 
-    module _ (room : n < p) where
+    module _ (s : ℕ) (room : n < p) where
       low : i < p
       low = omega (arith, w.within, w.noded.listed.fits)
 
@@ -260,11 +247,11 @@ module _ (parts : List ℕ) (p : ℕ) (l nodes : List ℕ) (i s n : ℕ) (w : Na
           ∙ sym (flag_other (get_or l j 0) (get_or l i 0) nodes (differ j k e))
 
       -- it becomes one
-      pub name_new : Named (named parts p i s n) p l (note nodes (get_or l i 0)) s n (n + 1)
+      pub name_new : Named (named parts p i s n) p l (note nodes (get_or l i 0)) s n (Some (n + 1))
       name_new = rw fresh (record {
-        long = λ g. sym more_length;
-        more = λ g. omega arith;
-        noded = λ g. record {
+        long = more_length;
+        more = omega arith;
+        noded = record {
           wide = omega (arith, named_long parts p i s n room low, w.noded.wide);
           listed = enumerated_same (λ j k m. (beside_named parts p i s n room low).middle j k (omega arith)) w.noded.listed;
           few = omega (arith, more_length);
@@ -272,8 +259,7 @@ module _ (parts : List ℕ) (p : ℕ) (l nodes : List ℕ) (i s n : ℕ) (w : Na
           flags = λ j k. flag_of_lem j k (ℕ_discrete j i);
           distinct = w.noded.distinct;
         };
-        starts = λ g j k m. let e : j ≡ n = omega arith in rw e (named_start parts p i s n room low w.noded.wide);
-        over = λ g. absurd (omega arith);
+        starts = λ j k m. let e : j ≡ n = omega arith in rw e (named_start parts p i s n room low w.noded.wide);
       })
 
 -- ---- clearing

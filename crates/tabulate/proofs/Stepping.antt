@@ -1,17 +1,10 @@
 -- One size more in the lent table: its parents and candidates, which are no nodes yet, and the new nodes with the numbers where their groups start. Assumes nothing.
-use mathlib.Core.Path.{◌≡◌, refl, sym, ap, ◌∙◌, subst}
-use mathlib.Core.Logic.{◌⊎◌, inl, inr, ◌≢◌, ◌↔◌}
-use mathlib.Core.Bool.{true, false}
+use Rattle.std.proofs.Common.{◌≡◌, refl, sym, ap, ◌∙◌, subst, ◌⊎◌, inl, inr, ◌≢◌, ◌↔◌, true, false, List, [], ◌∷◌, ◌++◌, ℕ, zero, suc, ◌+◌, ◌-◌, ◌*◌, ◌^◌, ◌≤◌, ◌<◌, max, zero-add, arith, eqb, length, get_or, take, drop, length-append, ext_get_or, get_or-take, length-take-le, get_or-append-add, eqb-true, Option, Some, None}
 use mathlib.Core.List.Memᴰ.{cast as mem_cast}
-use mathlib.Core.List.{List, [], ◌∷◌, ◌++◌, Memᴰ as Mem}
-use Prim.Native.Nat.{ℕ, zero, suc, ◌+◌, ◌-◌, ◌*◌, ◌^◌, ◌≤◌, ◌<◌, max}
-use native.Mathlib.Decide.{dec_lt, ℕ_discrete}
-use native.Mathlib.Nat.{zero-add}
-use native.Mathlib.Omega.{arith}
-use lib.Dec.{eqb}
-use lib.ListN.{length, get_or, set, take, drop, length-append, length-set, get_or-append}
-use lib.Seq.{slice, ext_get_or, get_or-take, length-take-le, get_or_at, get_or-append-add, get_or-set_same, get_or-set_other}
-use borrow.Author.Tests.{eqb-true}
+use mathlib.Core.List.{Memᴰ as Mem}
+use Rattle.std.proofs.Math.Decide.{dec_lt, ℕ_discrete}
+use Rattle.std.proofs.Math.ListN.{get_or-append}
+use Rattle.std.proofs.Math.Seq.{slice, get_or_at}
 use Rattle.bitset.specs.Bits.{bit, size}
 use Rattle.bitset.proofs.Bools.{two}
 use Rattle.bitset.proofs.Laws.{member_lt}
@@ -25,11 +18,12 @@ use Rattle.molecule.proofs.Lists.{at_mem, any_some, length_list, list_at}
 use Rattle.matches.specs.Table.{Group, Table, candidates, groups, extend, sizes, singles}
 use Rattle.enumerate.specs.Inner.Bucketed.{Spared, Collected, grown_by}
 use Rattle.enumerate.specs.Inner.Grouped.{group_at, Keyed, Grouped, Groupable, Around}
-use Rattle.tabulate.specs.Inner.Noded.{nodes_after, nodes_of, pairs_in, Beside, Groups, Grown}
+use Rattle.tabulate.specs.declared.nodes.Done.{Done}
+use Rattle.tabulate.specs.Inner.Noded.{nodes_after, nodes_of, pairs_in, Beside, Groups, Paired, Grown}
 use Rattle.matches.specs.Inner.Ranks.{Akin}
 use Rattle.matches.specs.Inner.Descending.{Starts}
 use Rattle.matches.specs.Inner.Written.{start_in}
-use Rattle.tabulate.specs.Inner.Stage.{table_at, nodes_at, Stage, Sizing, NextSize}
+use Rattle.tabulate.specs.Inner.Stage.{table_at, nodes_at, Stage, Sizing, Found, Overflowing, NextSize}
 use Rattle.matches.proofs.Laws.{before_differ, groups_every}
 use Rattle.matches.proofs.Laws.{pair_up_grows}
 use Rattle.matches.proofs.Laws.{Node, candidates_node, candidates_distinct, single_node}
@@ -237,93 +231,107 @@ module _ {r : Bytes} {parts : List ℕ} {p k from to : ℕ} (w : Sizing r parts 
     found_these : grown_by (λ (i : ℕ). get_or touch i 0) [] (slice from to parts) ≡ these
     found_these = ap (grown_by (λ (i : ℕ). get_or touch i 0) []) parents_in ∙ grown_candidates r (λ (i : ℕ). get_or touch i 0) (parents_at r k) touch_at
 
-    module _ {one : List ℕ} {count : ℕ} (v : Spared parts one p × Collected one p (grown_by (λ (i : ℕ). get_or touch i 0) [] (slice from to parts)) count) where
-      counted : Collected one p these count
-      counted = subst (λ (l : List ℕ). Collected one p l count) found_these v.1
+    -- the candidates have no room
+    pub sizing_over : p < length (grown_by (λ (i : ℕ). get_or touch i 0) [] (slice from to parts)) → Overflowing r p k
+    sizing_over h = record { place = next_place r k some; over = omega (arith, next_need r k some, h, ap (λ (l : List ℕ). length l) found_these) }
 
-      -- the candidates have no room
-      pub sizing_over : p < count → NextSize r one p k count 0
-      sizing_over h = record {
-        held = λ g. absurd (omega arith);
-        all = λ g. absurd (omega arith);
-        more = λ g. absurd (omega arith);
-        place = λ g. next_place r k some;
-        over = λ g. omega (arith, next_need r k some, counted.over h);
-      }
+    module _ {one : List ℕ} {count : ℕ} (v : Spared parts one p × Collected one p (grown_by (λ (i : ℕ). get_or touch i 0) [] (slice from to parts)) (Some count)) where
+      counted : Collected one p these (Some count)
+      counted = subst (λ (l : List ℕ). Collected one p l (Some count)) found_these v.1
 
-      module _ (few : count ≤ p) where
-        pub sizing_wide : 12 * p ≤ length one
-        sizing_wide = omega (arith, v.0.long, w.held.wide)
+      pub sizing_wide : 12 * p ≤ length one
+      sizing_wide = omega (arith, v.0.long, w.held.wide)
 
-        pub sizing_count : length these ≡ count
-        sizing_count = sym (counted.count few)
+      pub sizing_count : length these ≡ count
+      sizing_count = counted.1
 
-        module _ {two : List ℕ} (c : Cleared one two p count) where
-          pub sizing_ready : Groupable r two p these
-          sizing_ready = record {
-            found = cleared_bucketed one two p count these c (counted.found few);
-            wide = omega (arith, c.long, sizing_wide);
-            own = λ s m. (candidate r k some s m).own;
-            connected = λ s m. (candidate r k some s m).whole;
+      pub sizing_few : count ≤ p
+      sizing_few = omega (arith, counted.1, counted.0.listed.fits)
+
+      module _ {two : List ℕ} (c : Cleared one two p count) where
+        pub sizing_ready : Groupable r two p these
+        sizing_ready = record {
+          found = cleared_bucketed one two p count these c counted.0;
+          wide = omega (arith, c.long, sizing_wide);
+          own = λ s m. (candidate r k some s m).own;
+          connected = λ s m. (candidate r k some s m).whole;
+        }
+
+        module _ {three : List ℕ} {g : ℕ} (o : Around two three p) (d : (g ≡ length (groups r these)) × Grouped r three p these count (groups r these)) where
+          grouped : Grouped r three p these (length these) (groups r these)
+          grouped = subst (λ (n : ℕ). Grouped r three p these n (groups r these)) (sym sizing_count) d.1
+
+          number_at : (i : ℕ) → i < length nodes → get_or three i 0 ≡ get_or nodes i 0
+          number_at i h =
+              let l : i < p = omega (arith, long, sizing_room) in
+              o.low i (omega arith) ∙ c.low i (omega arith) ∙ v.0.nodes i l ∙ w.held.nodes i (omega (arith, w.all, long))
+
+          pub sizing_groups : Groups three p these nodes (groups r these) g to
+          sizing_groups = record {
+            noded = noded_start three p these nodes (bucketed_around o sizing_ready.found) (omega (arith, o.long, c.long, sizing_wide))
+                (candidates_distinct r (parents_at r k)) (omega (arith, long, sizing_room)) number_at
+                (λ i h. candidate_new r k some (get_or these i 0) (at_mem 0 these i h))
+                (λ i h. o.middle (7 * p + i) (omega arith) (omega (arith, sizing_count, sizing_few)) ∙ c.none i (omega (arith, sizing_count)));
+            long = long;
+            many = sym d.0;
+            few = omega (arith, d.0, grouped.few, sizing_count, sizing_few);
+            linked = grouped_linked r three p these (groups r these) (omega (arith, sizing_count, sizing_few)) grouped;
+            room = omega (arith, pairs_fit r these (omega (arith, sizing_count, sizing_few, w.held.clamped)));
           }
 
-          module _ {three : List ℕ} {g : ℕ} (o : Around two three p) (d : (g ≡ length (groups r these)) × Grouped r three p these count (groups r these)) where
-            grouped : Grouped r three p these (length these) (groups r these)
-            grouped = subst (λ (n : ℕ). Grouped r three p these n (groups r these)) (counted.count few) d.1
+          all_nodes : nodes_at r (suc (suc k)) ≡ length (nodes_of nodes (groups r these))
+          all_nodes = nodes_suc r (suc k) ∙ ap (λ (l : List ℕ). length l) (next_nodes r k some)
 
-            number_at : (i : ℕ) → i < length nodes → get_or three i 0 ≡ get_or nodes i 0
-            number_at i h =
+          -- the nodes have no room
+          pub sizing_full : p < length (nodes_of nodes (groups r these)) → Overflowing r p k
+          sizing_full h = record { place = next_place r k some; over = omega (arith, next_need r k some, h, all_nodes) }
+
+          module _ {four : List ℕ} {e : Done} (b : Beside three four p to) (f : Paired four p these nodes (groups r these) e) where
+            start_kept : (i : ℕ) → i < length nodes → start_in four p i ≡ start_in parts p i
+            start_kept i h =
                 let l : i < p = omega (arith, long, sizing_room) in
-                o.low i (omega arith) ∙ c.low i (omega arith) ∙ v.0.nodes i l ∙ w.held.nodes i (omega (arith, w.all, long))
+                b.starts i (omega (arith, long)) l ∙ o.middle (8 * p + i) (omega arith) (omega arith) ∙ c.high (8 * p + i) (omega arith) ∙ v.0.rest (8 * p + i) (omega arith)
 
-            pub sizing_groups : Groups three p these nodes (groups r these) g to
-            sizing_groups = record {
-              noded = noded_start three p these nodes (bucketed_around o sizing_ready.found) (omega (arith, o.long, c.long, sizing_wide))
-                  (candidates_distinct r (parents_at r k)) (omega (arith, long, sizing_room)) number_at
-                  (λ i h. candidate_new r k some (get_or these i 0) (at_mem 0 these i h)) (λ i h. o.middle (7 * p + i) (omega arith) (omega (arith, sizing_count)) ∙ c.none i (omega (arith, sizing_count)));
-              long = long;
-              many = sym d.0;
-              few = omega (arith, d.0, grouped.few, sizing_count);
-              linked = grouped_linked r three p these (groups r these) (omega (arith, sizing_count)) grouped;
-              room = omega (arith, pairs_fit r these (omega (arith, sizing_count, w.held.clamped)));
+            all_of : e.nodes ≡ nodes_at r (suc (suc k))
+            all_of = sym (all_nodes ∙ f.long)
+
+            few_of : e.nodes ≤ p
+            few_of = omega (arith, f.long, f.noded.few)
+
+            starts_of : Starts r (table_at r (suc k)).nodes (start_in four p)
+            starts_of = rw (next_nodes r k some) (starts_more r nodes (groups r these) (suc (suc k)) (omega arith) grouped.keyed (node_small r k some)
+                (member_sized r k some) (start_in parts p) (start_in four p) w.held.starts start_kept f.starts)
+
+            fits_of : (i : ℕ) → i < length (table_at r (suc k)).needs → get_or (table_at r (suc k)).needs i 0 ≤ p
+            fits_of i l = go (dec_lt i (suc (suc k)))
+              where
+                go : Dec (i < suc (suc k)) → get_or (table_at r (suc k)).needs i 0 ≤ p
+                go (yes q) =
+                    let z : i < length (table_at r k).needs = omega (arith, needs_count r k some) in
+                    rw (next_needs r k some, get_or-append (table_at r k).needs (max (length these) (nodes_at r (suc (suc k))) ∷ []) 0 i z) (w.held.fits i z)
+                go (no q) =
+                    let z : i ≡ suc (suc k) = omega (arith, (table_round_next r k some).count) in
+                    rw z (omega (arith, next_need r k some, all_of, few_of, sizing_count, sizing_few))
+
+            pub sizing_done : Found r four p k e
+            sizing_done = record {
+              held = record {
+                wide = omega (arith, b.long, o.long, c.long, sizing_wide);
+                some = w.held.some;
+                clamped = w.held.clamped;
+                nodes = λ i l. rw (next_nodes r k some) (f.noded.numbers i (omega (arith, all_nodes)));
+                starts = starts_of;
+                fits = fits_of;
+              };
+              all = all_of;
+              few = few_of;
+              more = next_matches r k some ∙ ap (λ (x : ℕ). length (table_at r k).matches + x) (sym f.matches);
             }
 
-            module _ {four : List ℕ} {n m : ℕ} (b : Beside three four p to) (f : Grown four p these nodes (groups r these) n m) where
-              start_kept : (i : ℕ) → i < length nodes → start_in four p i ≡ start_in parts p i
-              start_kept i h =
-                  let l : i < p = omega (arith, long, sizing_room) in
-                  b.starts i (omega (arith, long)) l ∙ o.middle (8 * p + i) (omega arith) (omega arith) ∙ c.high (8 * p + i) (omega arith) ∙ v.0.rest (8 * p + i) (omega arith)
-
-              all_of : n ≤ p → n ≡ nodes_at r (suc (suc k))
-              all_of h = f.long h ∙ sym (nodes_suc r (suc k) ∙ ap (λ (l : List ℕ). length l) (next_nodes r k some))
-
-              starts_in : n ≤ p → Starts r (table_at r (suc k)).nodes (start_in four p)
-              starts_in h = rw (next_nodes r k some) (starts_more r nodes (groups r these) (suc (suc k)) (omega arith) grouped.keyed (node_small r k some) (member_sized r k some) (start_in parts p) (start_in four p) w.held.starts start_kept (f.starts h))
-
-              fits_in : n ≤ p → (i : ℕ) → i < length (table_at r (suc k)).needs → get_or (table_at r (suc k)).needs i 0 ≤ p
-              fits_in h i l = go (dec_lt i (suc (suc k)))
-                where
-                  go : Dec (i < suc (suc k)) → get_or (table_at r (suc k)).needs i 0 ≤ p
-                  go (yes q) =
-                      let e : i < length (table_at r k).needs = omega (arith, needs_count r k some) in
-                      rw (next_needs r k some, get_or-append (table_at r k).needs (max (length these) (nodes_at r (suc (suc k))) ∷ []) 0 i e) (w.held.fits i e)
-                  go (no q) = let e : i ≡ suc (suc k) = omega (arith, (table_round_next r k some).count) in rw e (omega (arith, next_need r k some, all_of h, sizing_count))
-
-              pub sizing_done : NextSize r four p k n m
-              sizing_done = record {
-                held = λ h. record {
-                  wide = omega (arith, b.long, o.long, c.long, sizing_wide);
-                  some = w.held.some;
-                  clamped = w.held.clamped;
-                  nodes = λ i l. rw (next_nodes r k some) ((f.noded h).numbers i (omega (arith, all_of h, f.long h)));
-                  starts = starts_in h;
-                  fits = fits_in h;
-                };
-                all = all_of;
-                more = λ h. next_matches r k some ∙ ap (λ (x : ℕ). length (table_at r k).matches + x) (sym (f.matches h));
-                place = λ h. next_place r k some;
-                over = λ h. omega (arith, next_need r k some, f.over h, nodes_suc r (suc k), ap (λ (l : List ℕ). length l) (next_nodes r k some));
-              }
+          -- whether they have or not
+          pub sizing_next : {four : List ℕ} → Beside three four p to → (e : Option Done) → Grown four p these nodes (groups r these) e → NextSize r four p k e
+          sizing_next b (Some e) f = sizing_done b f
+          sizing_next b None f = sizing_full f
 
 -- ---- the single bonds
 
@@ -332,27 +340,6 @@ pub record Laid (old now : List ℕ) (p i : ℕ) : Type 0 where
   pub long : length now ≡ length old
   pub nodes : (j : ℕ) → j < i → get_or now j 0 ≡ 2 ^ j
   pub starts : (j : ℕ) → j < i → get_or now (8 * p + j) 0 ≡ j
-
-pub laid_start : (old : List ℕ) (p : ℕ) → Laid old old p 0
-laid_start old p = record { long = refl; nodes = λ j h. absurd (omega arith); starts = λ j h. absurd (omega arith) }
-
-pub laid_next : (old now : List ℕ) (p i x : ℕ) → 12 * p ≤ length old → i < p → x ≡ 2 ^ i → Laid old now p i → Laid old (set (set now i x) (8 * p + i) i) p (i + 1)
-laid_next old now p i x wide h e w = record {
-  long = length-set (set now i x) (8 * p + i) i ∙ once;
-  nodes = λ j l. get_or-set_other (set now i x) (8 * p + i) j i 0 (λ q. omega arith) ∙ node j l (ℕ_discrete j i);
-  starts = λ j l. starting j l (ℕ_discrete j i);
-}
-  where
-    once : length (set now i x) ≡ length old
-    once = length-set now i x ∙ w.long
-
-    node : (j : ℕ) → j < i + 1 → Dec (j ≡ i) → get_or (set now i x) j 0 ≡ 2 ^ j
-    node j l (yes q) = rw q (get_or-set_same now i x 0 (omega (arith, w.long)) ∙ e)
-    node j l (no n) = get_or-set_other now i j x 0 n ∙ w.nodes j (omega arith)
-
-    starting : (j : ℕ) → j < i + 1 → Dec (j ≡ i) → get_or (set (set now i x) (8 * p + i) i) (8 * p + j) 0 ≡ j
-    starting j l (yes q) = rw q (get_or-set_same (set now i x) (8 * p + i) i 0 (omega (arith, once)))
-    starting j l (no n) = get_or-set_other (set now i x) (8 * p + i) (8 * p + j) i 0 (λ q. n (omega arith)) ∙ get_or-set_other now i (8 * p + j) x 0 (λ q. omega arith) ∙ w.starts j (omega arith)
 
 module _ (r : Bytes) (old now : List ℕ) (p : ℕ) (w : Laid old now p (bonds r)) (some : 0 < p) (clamped : p ≤ 4294967295) (wide : 12 * p ≤ length old) (fits : bonds r ≤ p) where
   single_at : (i : ℕ) → i < bonds r → get_or (singles r) i 0 ≡ 2 ^ i
@@ -381,7 +368,7 @@ module _ (r : Bytes) (old now : List ℕ) (p : ℕ) (w : Laid old now p (bonds r
       need (suc zero) h = fits
       need (suc (suc i)) h = absurd (omega arith)
 
-pub laid_held : (old now : List ℕ) (p n i : ℕ) → Laid old now p i → n ≤ i → 0 < p → p ≤ 4294967295 → 12 * p ≤ length old → n ≤ p → (r : Bytes) → bonds r ≡ n
+pub laid_held : {old now : List ℕ} {p n i : ℕ} → Laid old now p i → n ≤ i → 0 < p → p ≤ 4294967295 → 12 * p ≤ length old → n ≤ p → (r : Bytes) → bonds r ≡ n
     → Stage r now p 0
-laid_held old now p n i w h some clamped wide fits r e =
+laid_held {old} {now} {p} w h some clamped wide fits r e =
     held_start r old now p (record { long = w.long; nodes = λ j l. w.nodes j (omega arith); starts = λ j l. w.starts j (omega arith) }) some clamped wide (omega arith)

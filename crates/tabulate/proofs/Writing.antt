@@ -1,11 +1,10 @@
 -- The matches in descending order, written one after the other: what is written, and what is left, are all. Assumes nothing.
-use mathlib.Core.Path.{◌≡◌, refl, sym, ap, ◌∙◌}
-use mathlib.Core.Bool.{Bool, true, false}
-use mathlib.Core.List.{List, [], ◌∷◌, ◌++◌, append_assoc, append-nil}
-use Prim.Native.Nat.{ℕ, suc, ◌+◌, ◌-◌, ◌*◌, ◌≤◌, ◌<◌}
-use native.Mathlib.Omega.{arith}
-use lib.ListN.{length, get_or, drop, set, length-append, length-map}
-use lib.Seq.{sets, length-sets, sets-eq}
+use Rattle.std.proofs.Common.{◌≡◌, refl, sym, ap, ◌∙◌, Bool, true, List, [], ◌∷◌, ◌++◌, append_assoc, append-nil, ℕ, suc, ◌+◌, ◌-◌, ◌*◌, ◌≤◌, ◌<◌, arith, length, get_or, take, drop, set, length-append}
+use borrow.Rule.Slice.PartMut.{put_mid}
+use Rattle.std.proofs.Math.ListN.{length-map}
+use Rattle.std.proofs.Math.Seq.{sets, sets-eq}
+use Rattle.std.proofs.lemmas.Slice.{put_mid-paste}
+use Rattle.std.proofs.lemmas.List.Edits.{paste_all}
 use Rattle.bitset.specs.Bits.{is_disjoint}
 use Rattle.molecule.specs.Lists.{filter}
 use Rattle.matches.specs.Table.{Match}
@@ -27,13 +26,13 @@ sets_append : (l : List ℕ) (k : ℕ) (v w : List ℕ) (n : ℕ) → n ≡ k + 
 sets_append l k [] w n e = let f : n ≡ k = omega arith in rw f
 sets_append l k (x ∷ v) w n e = sets_append (set l k x) (suc k) v w n (omega arith)
 
--- four stores
-pub four_sets : (l : List ℕ) (k a b c d : ℕ) → set (set (set (set l k a) (k + 1) b) (k + 2) c) (k + 3) d ≡ sets l k (a ∷ b ∷ c ∷ d ∷ [])
-four_sets l k a b c d =
-    let e : k + 1 ≡ suc k = omega arith in
-    let f : k + 2 ≡ suc (suc k) = omega arith in
-    let g : k + 3 ≡ suc (suc (suc k)) = omega arith in
-    rw (e, f, g)
+-- words copied over those from place i on
+pub words_put : (l : List ℕ) {ys : List ℕ} (i k : ℕ) (vs : List ℕ) → ys ≡ vs → k ≡ length vs → i + length vs ≤ length l → put_mid i k l ys ≡ sets l i vs
+words_put l {ys} i k vs e n h =
+    put_mid-paste i k l ys vs (length vs) e (sym n) refl
+    ∙ paste_all l i vs (length vs) refl
+    ∙ sym (append_assoc (take i l) vs (drop (i + length vs) l))
+    ∙ sym (sets-eq vs l i h)
 
 -- ---- writing
 
@@ -44,25 +43,7 @@ pub record Writing (l : List ℕ) (all left : List Match) (m k : ℕ) (old now :
   pub count : k ≡ m + length done
   pub is : now ≡ sets old (4 * m) (words_of l done)
 
-pub writing_start : (l : List ℕ) (all : List Match) (m : ℕ) (old : List ℕ) → Writing l all all m m old old
-writing_start l all m old = record { done = []; split = refl; count = omega arith; is = refl }
-
 module _ {l : List ℕ} {all left : List Match} {m k : ℕ} {old now : List ℕ} (w : Writing l all left m k old now) where
-  pub writing_length : length now ≡ length old
-  writing_length = ap length w.is ∙ length-sets old (4 * m) (words_of l w.done)
-
-  -- how many are left
-  pub writing_left : k + length left ≡ m + length all
-  writing_left = omega (arith, w.count, length-append w.done left, ap length w.split)
-
-  -- there is room for the next
-  pub writing_room : {x : Match} {rest : List Match} → left ≡ (x ∷ []) ++ rest → 4 * (m + length all) ≤ length old → 4 * k + 4 ≤ length now
-  writing_room e h = omega (arith, writing_left, writing_length, ap length e)
-
-  -- what is left may be named otherwise
-  pub writing_skip : (rest : List Match) → left ≡ rest → Writing l all rest m k old now
-  writing_skip rest e = rw e at w
-
   -- some more are written
   pub writing_more : (ms rest : List Match) (n : ℕ) (then : List ℕ) → left ≡ ms ++ rest → n ≡ k + length ms → then ≡ sets now (4 * k) (words_of l ms) → Writing l all rest m n old then
   writing_more ms rest n then e c q = record {
@@ -98,9 +79,6 @@ module _ {l : List ℕ} {all left : List Match} {m k : ℕ} {old now : List ℕ}
 abbrev pub left_of : List ℕ → ℕ → ℕ → ℕ → List Match
 left_of l x s y = with_each x (filter (λ z. is_disjoint (get_or l x 0) (get_or l z 0)) (countdown s (y - s)))
 
-pub left_none : (l : List ℕ) (x s y : ℕ) → y ≤ s → left_of l x s y ≡ []
-left_none l x s y h = let e : y - s ≡ 0 = omega arith in rw e
-
 module _ (l : List ℕ) (x s y : ℕ) (h : s < y) where
   next : countdown s (y - s) ≡ (y - 1) ∷ countdown s (y - 1 - s)
   next =
@@ -114,9 +92,6 @@ module _ (l : List ℕ) (x s y : ℕ) (h : s < y) where
   pub left_hit : true ≡ is_disjoint (get_or l x 0) (get_or l (y - 1) 0) → left_of l x s y ≡ (record { larger = x; smaller = y - 1 } ∷ []) ++ left_of l x s (y - 1)
   left_hit e = ap (λ (ys : List ℕ). with_each x (filter test ys)) next ∙ rw (← e)
 
-  pub left_past : false ≡ is_disjoint (get_or l x 0) (get_or l (y - 1) 0) → left_of l x s y ≡ left_of l x s (y - 1)
-  left_past e = ap (λ (ys : List ℕ). with_each x (filter test ys)) next ∙ rw (← e)
-
 pub each_length : (x : ℕ) (ys : List ℕ) → length (with_each x ys) ≡ length ys
 each_length x ys = length-map ys (λ (y : ℕ). record { larger = x; smaller = y })
 
@@ -127,7 +102,3 @@ descend_step below n h = let e : n ≡ suc (n - 1) = omega arith in ap (descend 
 
 pub descend_none : (below : ℕ → List ℕ) (n : ℕ) → n ≤ 0 → descend below n ≡ []
 descend_none below n h = let e : n ≡ 0 = omega arith in ap (descend below) e
-
--- those of the last node are among them
-pub node_room : (below : ℕ → List ℕ) (n : ℕ) → 0 < n → length (below (n - 1)) ≤ length (descend below n)
-node_room below n h = omega (arith, ap length (descend_step below n h), length-append (with_each (n - 1) (below (n - 1))) (descend below (n - 1)), each_length (n - 1) (below (n - 1)))

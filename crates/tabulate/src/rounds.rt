@@ -16,16 +16,14 @@ pub fn start(parts: &mut [u64], p: usize, n: usize)
     requires { (0 < p) × (n ≤ p) × (n ≤ 64) × (12 * p ≤ length parts.old) × (p ≤ 4294967295) }
     ensures { (r : Bytes) → bonds r ≡ n → Stage r parts.new p 0 }
 {
-    let mut i = 0;
-    while i < n {
+    for i in 0..n {
         parts[i] = bitset::single(i as u32);
         parts[8 * p + i] = i as u64;
-        i += 1;
     }
 }
 
-// One size more, with the nodes from .. to as parents. The answer is how many nodes there are then, more than p where there is no room, and how many
-// matches it adds.
+// One size more, with the nodes from .. to as parents. The answer is how many nodes there are then and how many matches it adds, None where there
+// is no room.
 pub fn size(
     bytes: &[u8],
     at: &[u64; 65],
@@ -35,20 +33,14 @@ pub fn size(
     from: usize,
     to: usize,
     slate: &mut [u8],
-) -> Done
+) -> Option<Done>
     requires { (check bytes.now ≡ accepted) × (at.now ≡ bonds_at_words bytes.now) × (touch.now ≡ touching_words bytes.now)
         × ((k : ℕ) × Sizing bytes.now parts.old p k from to) × Slate slate.old }
     ensures next { (k : ℕ) → Sizing bytes.now parts.old p k from to
-        → NextSize bytes.now parts.new p k result.nodes result.matches }
+        → NextSize bytes.now parts.new p k result }
     ensures serves { Slate slate.new }
 {
-    let count = found::candidates(touch, parts, p, from, to);
-    if p < count {
-        return Done {
-            nodes: count,
-            matches: 0,
-        };
-    }
+    let count = found::candidates(touch, parts, p, from, to)?;
     clear::zero_part(parts, 7 * p, 7 * p + count);
     let groups = groups::group(bytes, at, parts, p, count, slate);
     nodes::pair_groups(parts, p, groups, to)

@@ -9,10 +9,8 @@ fn put(pairs: &mut [u64], m: usize, a: u64, b: u64)
     requires { 4 * m + 4 ≤ length pairs.old }
     ensures { pairs.new ≡ sets pairs.old (4 * m) (four_words a b) }
 {
-    pairs[4 * m] = a;
-    pairs[4 * m + 1] = b;
-    pairs[4 * m + 2] = bitset::union(a, b);
-    pairs[4 * m + 3] = bitset::size(a) as u64;
+    let words = [a, b, bitset::union(a, b), u64::from(bitset::size(a))];
+    pairs[4 * m..4 * m + 4].copy_from_slice(&words);
 }
 
 // The matches of node x with the nodes of its group below it, from x - 1 down, go after the first m. The answer is how many there are then.
@@ -25,14 +23,11 @@ fn write_node(parts: &[u64], p: usize, x: usize, pairs: &mut [u64], m: usize) ->
     let a = parts[x];
     let start = parts[8 * p + x] as usize;
     let mut k = m;
-    let mut y = x;
-    while start < y {
-        y -= 1;
+    for y in (start..x).rev() {
         let b = parts[y];
         if bitset::is_disjoint(a, b) {
             put(pairs, k, a, b);
             k += 1;
-            continue;
         }
     }
     k
@@ -46,9 +41,7 @@ pub fn write(parts: &[u64], p: usize, count: usize, pairs: &mut [u64]) -> usize
     ensures holds { pairs.new ≡ words_of parts.now (matches_in parts.now p count) ++ drop (4 * result) pairs.old }
 {
     let mut m = 0;
-    let mut x = count;
-    while 0 < x {
-        x -= 1;
+    for x in (0..count).rev() {
         m = write_node(parts, p, x, pairs, m);
     }
     m

@@ -1,6 +1,6 @@
 -- The candidates of one size as the lent table keeps them, in regions of p words: region 0 the nodes, 1 the candidates in order found, 2 for each
 -- the one before it in its bucket, 3 the last of each bucket.
-use Rattle.std.specs.Prelude.{◌≡◌, true, false, List, map, ℕ, zero, suc, ◌+◌, ◌*◌, ◌/◌, ◌%◌, ◌^◌, ◌≤◌, ◌<◌, length, get_or, eqb}
+use Rattle.std.specs.Prelude.{◌≡◌, true, false, Option, Some, None, List, map, ℕ, zero, suc, ◌+◌, ◌*◌, ◌/◌, ◌%◌, ◌^◌, ◌≤◌, ◌<◌, length, get_or, eqb}
 use Rattle.bitset.specs.Bits.{members}
 use Rattle.molecule.specs.Lists.{fold}
 use Rattle.molecule.specs.Touch.{around}
@@ -38,11 +38,10 @@ pub record Spared (old now : List ℕ) (p : ℕ) : Type 0 where
   pub nodes : (i : ℕ) → i < p → get_or now i 0 ≡ get_or old i 0
   pub rest : (i : ℕ) → 4 * p ≤ i → get_or now i 0 ≡ get_or old i 0
 
--- the answer r where the candidates are to be l: how many there are, and then the table holds them; or more than p where they have no room
-pub record Collected (now : List ℕ) (p : ℕ) (l : List ℕ) (r : ℕ) : Type 0 where
-  pub count : r ≤ p → r ≡ length l
-  pub found : r ≤ p → Bucketed now p l
-  pub over : p < r → p < length l
+-- the answer where the candidates are to be l: how many there are, and then the table holds them; or None where they have no room
+abbrev pub Collected : List ℕ → ℕ → List ℕ → Option ℕ → Type 0
+Collected now p l (Some n) = Bucketed now p l × (length l ≡ n)
+Collected now p l None = p < length l
 
 -- the candidates l, and those that parent s gives, with near i the bonds next to bond i; and the same for each of a list of parents
 unfoldable pub grown : (ℕ → ℕ) → List ℕ → ℕ → List ℕ

@@ -96,9 +96,9 @@ pub record Hinted (r : Bytes) (parts : List ℕ) (p j : ℕ) : Type 0 where
   pub own : (f : ℕ) → get_or parts (9 * p + j) 0 ≡ suc f → Own r (get_or parts (p + f) 0)
   pub connected : (f : ℕ) → get_or parts (9 * p + j) 0 ≡ suc f → Connected r (get_or parts (p + f) 0)
 
--- and its label is x
-abbrev pub HintLeads : Bytes → List ℕ → ℕ → ℕ → Bytes → Type 0
-HintLeads r parts p j x = (f : ℕ) × (get_or parts (9 * p + j) 0 ≡ suc f) × (same x (label r (get_or parts (p + f) 0)) ≡ true)
+-- hint j is f + 1, and the label of candidate f is x
+abbrev pub HintLeads : Bytes → List ℕ → ℕ → ℕ → ℕ → Bytes → Type 0
+HintLeads r parts p j f x = (get_or parts (9 * p + j) 0 ≡ suc f) × (same x (label r (get_or parts (p + f) 0)) ≡ true)
 
 -- there were g groups and are n: each first member is one still, and where they are not as many candidate i is one
 pub record Moved (old now : List ℕ) (p g n i : ℕ) : Type 0 where

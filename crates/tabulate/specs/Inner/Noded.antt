@@ -1,12 +1,13 @@
 -- The candidates that become nodes as the lent table keeps them, in regions of p words: region 0 the nodes by number, 1 the candidates, 5 for each
 -- candidate 1 more than the index of the next member of its group, 0 for none,
 -- 7 for each candidate 1 where it is a node and 0 where it is not, 8 for each node the number of the first node of its group.
-use Rattle.std.specs.Prelude.{◌≡◌, true, false, List, [], ◌∷◌, ℕ, zero, suc, ◌+◌, ◌-◌, ◌*◌, ◌^◌, ◌≤◌, ◌<◌, length, get_or, take, eqb}
+use Rattle.std.specs.Prelude.{◌≡◌, true, false, Option, Some, None, List, [], ◌∷◌, ℕ, zero, suc, ◌+◌, ◌-◌, ◌*◌, ◌^◌, ◌≤◌, ◌<◌, length, get_or, take, eqb}
 use Rattle.bitset.specs.Bits.{is_disjoint}
 use Rattle.molecule.specs.Lists.{any, fold}
 use Rattle.matches.specs.Table.{Group, note}
 use Rattle.enumerate.specs.Inner.Bucketed.{Enumerated}
 use Rattle.enumerate.specs.Inner.Grouped.{group_at}
+use Rattle.tabulate.specs.declared.nodes.Done.{Done}
 
 -- ---- lists of nodes
 
@@ -62,19 +63,22 @@ pub record Beside (old now : List ℕ) (p count : ℕ) : Type 0 where
   pub starts : (i : ℕ) → i < count → i < p → get_or now (8 * p + i) 0 ≡ get_or old (8 * p + i) 0
   pub rest : (i : ℕ) → 9 * p ≤ i → get_or now i 0 ≡ get_or old i 0
 
--- the answer r where the nodes were count and are to be these: how many there are, and then the table holds them, and start for each new one; or
--- more than p where they have no room
-pub record Named (now : List ℕ) (p : ℕ) (l nodes : List ℕ) (start count r : ℕ) : Type 0 where
-  pub long : r ≤ p → r ≡ length nodes
-  pub more : r ≤ p → count ≤ r
-  pub noded : r ≤ p → Noded now p l nodes
-  pub starts : r ≤ p → (i : ℕ) → count ≤ i → i < r → get_or now (8 * p + i) 0 ≡ start
-  pub over : p < r → p < length nodes
+-- the table holds the nodes, of which there were count and are r, and start for each new one
+pub record Numbered (now : List ℕ) (p : ℕ) (l nodes : List ℕ) (start count r : ℕ) : Type 0 where
+  pub long : length nodes ≡ r
+  pub more : count ≤ r
+  pub noded : Noded now p l nodes
+  pub starts : (i : ℕ) → count ≤ i → i < r → get_or now (8 * p + i) 0 ≡ start
 
--- the answer r, m where there are to be so many matches besides
-pub record PairsMade (now : List ℕ) (p : ℕ) (l nodes : List ℕ) (total start count r m : ℕ) : Type 0 where
-  pub named : Named now p l nodes start count r
-  pub matches : r ≤ p → m ≡ total
+-- the answer where the nodes were count and are to be these: how many there are, and then the table holds them; or None where they have no room
+abbrev pub Named : List ℕ → ℕ → List ℕ → List ℕ → ℕ → ℕ → Option ℕ → Type 0
+Named now p l nodes start count (Some r) = Numbered now p l nodes start count r
+Named now p l nodes start count None = p < length nodes
+
+-- the same where there are to be so many matches more
+abbrev pub PairsMade : List ℕ → ℕ → List ℕ → List ℕ → ℕ → ℕ → Done → Option Done → Type 0
+PairsMade now p l nodes pairs start done (Some d) = Numbered now p l nodes start done.nodes d.nodes × (d.matches ≡ done.matches + pairs)
+PairsMade now p l nodes pairs start done None = p < length nodes
 
 -- ---- members of a group
 
@@ -102,27 +106,27 @@ pub record Naming (parts : List ℕ) (p : ℕ) (l nodes : List ℕ) (i count : �
   pub within : i < length l
 
 -- candidates i and j are to meet
-pub record Meeting (parts : List ℕ) (p : ℕ) (l nodes : List ℕ) (i j count matches : ℕ) : Type 0 where
+pub record Meeting (parts : List ℕ) (p : ℕ) (l nodes : List ℕ) (i j : ℕ) (done : Done) : Type 0 where
   pub noded : Noded parts p l nodes
-  pub long : length nodes ≡ count
+  pub long : length nodes ≡ done.nodes
   pub one : i < length l
   pub other : j < length l
-  pub room : matches + apart (get_or l i 0) (get_or l j 0) < 2 ^ 64
+  pub room : done.matches + apart (get_or l i 0) (get_or l j 0) < 2 ^ 64
 
 -- candidate i is to meet the members after it
-pub record ToMeet (parts : List ℕ) (p : ℕ) (l nodes sets : List ℕ) (i count matches : ℕ) : Type 0 where
+pub record ToMeet (parts : List ℕ) (p : ℕ) (l nodes sets : List ℕ) (i : ℕ) (done : Done) : Type 0 where
   pub noded : Noded parts p l nodes
-  pub long : length nodes ≡ count
+  pub long : length nodes ≡ done.nodes
   pub within : i < length l
   pub linked : LeadsThrough parts p l (get_or parts (5 * p + i) 0) sets
-  pub room : matches + pairs_with (get_or l i 0) sets < 2 ^ 64
+  pub room : done.matches + pairs_with (get_or l i 0) sets < 2 ^ 64
 
 -- the group of these sets, from candidate first on, is to be paired up
-pub record Pairing (parts : List ℕ) (p : ℕ) (l nodes sets : List ℕ) (first count matches : ℕ) : Type 0 where
+pub record Pairing (parts : List ℕ) (p : ℕ) (l nodes sets : List ℕ) (first : ℕ) (done : Done) : Type 0 where
   pub noded : Noded parts p l nodes
-  pub long : length nodes ≡ count
+  pub long : length nodes ≡ done.nodes
   pub linked : LeadsThrough parts p l (suc first) sets
-  pub room : matches + disjoint_pairs sets < 2 ^ 64
+  pub room : done.matches + disjoint_pairs sets < 2 ^ 64
 
 -- the groups gs are to be paired up
 pub record Groups (parts : List ℕ) (p : ℕ) (l nodes : List ℕ) (gs : List Group) (groups count : ℕ) : Type 0 where
@@ -133,11 +137,15 @@ pub record Groups (parts : List ℕ) (p : ℕ) (l nodes : List ℕ) (gs : List G
   pub linked : AllLead parts p l gs
   pub room : pairs_in gs < 2 ^ 64
 
--- the answer r, m for all groups
-pub record Grown (now : List ℕ) (p : ℕ) (l nodes : List ℕ) (gs : List Group) (r m : ℕ) : Type 0 where
-  pub long : r ≤ p → r ≡ length (nodes_of nodes gs)
-  pub noded : r ≤ p → Noded now p l (nodes_of nodes gs)
-  pub starts : r ≤ p → (k i : ℕ) → k < length gs → length (nodes_of nodes (take k gs)) ≤ i → i < length (nodes_of nodes (take (suc k) gs))
+-- all groups are: the table holds the nodes, with the first of its group for each new one, and there are so many matches
+pub record Paired (now : List ℕ) (p : ℕ) (l nodes : List ℕ) (gs : List Group) (done : Done) : Type 0 where
+  pub long : length (nodes_of nodes gs) ≡ done.nodes
+  pub noded : Noded now p l (nodes_of nodes gs)
+  pub starts : (k i : ℕ) → k < length gs → length (nodes_of nodes (take k gs)) ≤ i → i < length (nodes_of nodes (take (suc k) gs))
       → get_or now (8 * p + i) 0 ≡ length (nodes_of nodes (take k gs))
-  pub matches : r ≤ p → m ≡ pairs_in gs
-  pub over : p < r → p < length (nodes_of nodes gs)
+  pub matches : done.matches ≡ pairs_in gs
+
+-- the answer for all groups; None where the nodes have no room
+abbrev pub Grown : List ℕ → ℕ → List ℕ → List ℕ → List Group → Option Done → Type 0
+Grown now p l nodes gs (Some d) = Paired now p l nodes gs d
+Grown now p l nodes gs None = p < length (nodes_of nodes gs)

@@ -1,11 +1,12 @@
 -- The table on its way, size by size, as the lent table keeps it, in regions of p words: region 0 the nodes by number, 8 for each node the number of
 -- the first node of its group.
-use Rattle.std.specs.Prelude.{◌≡◌, List, [], ◌∷◌, ℕ, zero, suc, ◌+◌, ◌*◌, ◌≤◌, ◌<◌, length, get_or}
+use Rattle.std.specs.Prelude.{◌≡◌, Option, Some, None, List, [], ◌∷◌, ℕ, zero, suc, ◌+◌, ◌*◌, ◌≤◌, ◌<◌, length, get_or}
 use Rattle.molecule.specs.Lists.{Bytes}
 use Rattle.molecule.specs.Record.{bonds}
 use Rattle.matches.specs.Table.{Table, sizes, singles}
 use Rattle.matches.specs.Inner.Descending.{Starts}
 use Rattle.matches.specs.Inner.Written.{start_in}
+use Rattle.tabulate.specs.declared.nodes.Done.{Done}
 
 module _ (r : Bytes) where
   -- the table after k sizes beyond the single bonds, or fewer where parents run out
@@ -33,10 +34,19 @@ pub record Sizing (r : Bytes) (parts : List ℕ) (p k from to : ℕ) : Type 0 wh
   pub all : to ≡ nodes_at r (suc k)
   pub parents : from < to
 
--- the answer nodes, matches for that size: how many nodes there are then and how many matches it adds; or more than p nodes where it has no room
-pub record NextSize (r : Bytes) (now : List ℕ) (p k nodes matches : ℕ) : Type 0 where
-  pub held : nodes ≤ p → Stage r now p (suc k)
-  pub all : nodes ≤ p → nodes ≡ nodes_at r (suc (suc k))
-  pub more : nodes ≤ p → length (table_at r (suc k)).matches ≡ length (table_at r k).matches + matches
-  pub place : p < nodes → suc (suc k) < length (table_at r (suc k)).needs
-  pub over : p < nodes → p < get_or (table_at r (suc k)).needs (suc (suc k)) 0
+-- that size is found: there are so many nodes then, and so many matches more
+pub record Found (r : Bytes) (now : List ℕ) (p k : ℕ) (done : Done) : Type 0 where
+  pub held : Stage r now p (suc k)
+  pub all : done.nodes ≡ nodes_at r (suc (suc k))
+  pub few : done.nodes ≤ p
+  pub more : length (table_at r (suc k)).matches ≡ length (table_at r k).matches + done.matches
+
+-- that size has no room
+pub record Overflowing (r : Bytes) (p k : ℕ) : Type 0 where
+  pub place : suc (suc k) < length (table_at r (suc k)).needs
+  pub over : p < get_or (table_at r (suc k)).needs (suc (suc k)) 0
+
+-- the answer for that size; None where it has no room
+abbrev pub NextSize : Bytes → List ℕ → ℕ → ℕ → Option Done → Type 0
+NextSize r now p k (Some d) = Found r now p k d
+NextSize r now p k None = Overflowing r p k
