@@ -1,4 +1,4 @@
--- Loops: a sum over a list, a list written from its front, the largest term, and the first size that is not left out. Assumes nothing.
+-- Sums over pieces, the largest term on its way, and the first size that is not left out. Assumes nothing.
 use mathlib.Core.Path.{◌≡◌, refl, sym, ap, ◌∙◌}
 use mathlib.Core.Bool.{Bool, true, false, not}
 use mathlib.Core.List.{List, [], ◌∷◌}
