@@ -148,16 +148,13 @@ outside_whole pieces a b n = go (two (inside pieces a)) (two (inside pieces b))
     go (inl e) (inr f) = rw (e, f)
     go (inr e) f = rw e
 
--- a match by the words of the table: not all its bonds are in pieces; its first fragment is not inside; else its second decides
+-- a match that is not removable, by the words of the table: not all its bonds are in pieces, or its first fragment is not inside
 module _ {words : List ℕ} {ms : List Pair} {pieces own : List ℕ} {all m : ℕ} (w : Scanning words ms pieces own all) (h : m < length ms) where
   pub scan_outside : {r : Bool} → r ≡ is_sub (get_or words (4 * m + 2) 0) all → r ≡ false → false ≡ goes ms pieces m
   scan_outside e n = sym (outside_whole pieces (pair ms m).h1 (pair ms m).h2 (rw (w.recorded.both m h, w.whole) at (sym e ∙ n)))
 
   pub scan_first : {r : Bool} → ((l : List ℕ) → Owners l own → r ≡ inside l (get_or words (4 * m) 0)) → r ≡ false → false ≡ goes ms pieces m
   scan_first e n = let z : inside pieces (pair ms m).h1 ≡ false = rw (w.recorded.one m h) at (sym (e pieces w.owners) ∙ n) in rw z
-
-  pub scan_both : {r s : Bool} → ((l : List ℕ) → Owners l own → r ≡ inside l (get_or words (4 * m) 0)) → r ≡ true → ((l : List ℕ) → Owners l own → s ≡ inside l (get_or words (4 * m + 1) 0)) → s ≡ goes ms pieces m
-  scan_both e n f = let z : inside pieces (pair ms m).h1 ≡ true = rw (w.recorded.one m h) at (sym (e pieces w.owners) ∙ n) in rw z (f pieces w.owners ∙ ap (inside pieces) (w.recorded.other m h))
 
 -- ---- the removable matches from a number on
 
