@@ -5,13 +5,15 @@ use mathlib.Core.Bool.{true≢false}
 use mathlib.Core.List.Memᴰ
 use mathlib.Core.List.{List, [], ◌∷◌, ◌++◌, Memᴰ, Permᴰ}
 use Prim.Native.Nat.{ℕ, suc, ◌+◌, ◌-◌, ◌*◌, ◌/◌, ◌^◌, ◌≤◌, ◌<◌, max}
-use native.Mathlib.Nat.{div-lt_iff_lt-mul, div-add-mod, mod-lt, mul-le-mul_right, add-div_right, pow-suc}
+use native.Mathlib.Nat.{div-lt_iff_lt-mul, div-add-mod, mod-lt, mul-le-mul_right, lt_of_mul-lt-mul_left, pow-suc}
 use native.Mathlib.Decide.{dec_lt, dec_le}
 use native.Mathlib.Omega.{arith}
 use lib.Count.{count_leading_zeros, leading_length}
 use lib.Dec.{leb}
 use lib.Pow.{pow_mono}
 use borrow.Author.Tests.{leb-true, le-leb}
+use Rattle.std.specs.Int.{div_ceil}
+use Rattle.std.proofs.lemmas.Grind.{div_ceil_times}
 use Rattle.bitset.proofs.Laws.{lt_pow}
 use Rattle.molecule.specs.Lists.{first}
 use Rattle.molecule.proofs.Scans.{first_le, first_hit, first_before}
@@ -31,9 +33,13 @@ le_ceil a b p = omega (arith, div-add-mod (a + (b - 1)) b, mod-lt (a + (b - 1)) 
 pub ceil_small : (a b : ℕ) → 0 < b → ceil_div a b ≤ a
 ceil_small a b p = ceil_le a b a p (omega (arith, mul-le-mul_right a p))
 
--- for some bonds it is one more than the quotient of one fewer
-pub ceil_up : (a b : ℕ) → 0 < a → 0 < b → (a - 1) / b + 1 ≡ ceil_div a b
-ceil_up a b p q = let e : a + (b - 1) ≡ (a - 1) + b = omega arith in rw e (omega (arith, add-div_right (a - 1) q))
+-- the library's division rounded up is the same
+pub ceil_is : (a b : ℕ) → 0 < b → div_ceil a b ≡ ceil_div a b
+ceil_is a b p =
+    let w = div_ceil_times a b p in
+    let high : ceil_div a b ≤ div_ceil a b = ceil_le a b (div_ceil a b) p (omega (arith, w.0)) in
+    let low : div_ceil a b < ceil_div a b + 1 = lt_of_mul-lt-mul_left b (omega (arith, w.1, le_ceil a b p)) in
+    omega arith
 
 -- ---- ceiling log2: the least e with t ≤ 2 ^ e
 
@@ -60,13 +66,13 @@ pub log_one : (t : ℕ) → t ≤ 1 → ceil_log2 t ≡ 0
 log_one t h = omega (arith, log_least t 0 h)
 
 -- the number of digits of t - 1
-pub log_digits : (t : ℕ) → 0 < t → t < 2 ^ 32 → 32 - count_leading_zeros 32 (t - 1) ≡ ceil_log2 t
-log_digits t p l =
+pub log_digits : (t : ℕ) → t < 2 ^ 32 → 32 - count_leading_zeros 32 (t - 1) ≡ ceil_log2 t
+log_digits t l =
     let w = leading_length 32 (t - 1) (omega arith) in
-    omega (arith, w.1, log_least t w.0 (omega (arith, w.2)), low w.0 w.3 (dec_lt (ceil_log2 t) w.0))
+    omega (arith, w.1, log_least t w.0 (omega (arith, w.2)), low w.0 w.3 (dec_lt (ceil_log2 t) w.0), log_one t)
   where
     low : (m : ℕ) → 2 ^ m ≤ 2 * (t - 1) + 1 → Dec (ceil_log2 t < m) → m ≤ ceil_log2 t
-    low m h (yes a) = absurd (omega (arith, log_le t, pow-suc 2 (ceil_log2 t), pow_mono {i = suc (ceil_log2 t)} {j = m} (omega arith)))
+    low m h (yes a) = absurd (omega (arith, log_le t, lt_pow m, pow-suc 2 (ceil_log2 t), pow_mono {i = suc (ceil_log2 t)} {j = m} (omega arith)))
     low m h (no n) = omega arith
 
 -- ---- sums over a list

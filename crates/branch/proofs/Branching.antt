@@ -9,15 +9,19 @@ use mathlib.Core.List.Memᴰ.{head as m_head}
 use mathlib.Core.List.Memᴰ.{not-nil}
 use mathlib.Core.List.Memᴰ.{tail as m_tail}
 use mathlib.Core.List.{List, [], ◌∷◌, ◌++◌, flat_map, Memᴰ as Mem}
-use Prim.Native.Nat.{ℕ, zero, suc, ◌+◌, ◌-◌, ◌*◌, ◌^◌, ◌≤◌, ◌<◌}
+use Prim.Native.Nat.{ℕ, zero, suc, ◌+◌, ◌-◌, ◌*◌, ◌/◌, ◌^◌, ◌≤◌, ◌<◌}
 use native.Mathlib.Omega.{arith}
 use native.Mathlib.Nat.{sub-zero}
 use native.Mathlib.Numerals.{add-one}
 use lib.Bits.{bit_and, bit_or}
-use lib.Dec.{leb, eqb}
+use lib.Dec.{leb, ltb, eqb}
 use lib.ListN.{length, get_or, take, drop}
 use lib.Seq.{length-take-le, take_at}
-use borrow.Author.Tests.{le-leb, lt-leb}
+use borrow.Author.Tests.{le-leb, lt-leb, ltb-true, lt-ltb}
+use Rattle.std.proofs.Common.{get_or-take, get_or-drop, length-take}
+use Rattle.std.specs.List.{AllWithin}
+use Rattle.std.specs.List.Sorted.{IsPartitionedBy}
+use Rattle.std.specs.Simd.{first_chunks}
 use Rattle.bitset.specs.Bits.{Sub, size, diff, unions}
 use Rattle.bitset.proofs.Bools.{two, and_true}
 use Rattle.bitset.proofs.Laws.{size_mono, size_diff, size_disjoint}
@@ -165,6 +169,42 @@ module _ (r : Bytes) (ms : List Pair) (M : Laws r ms) (pieces : List ℕ) where
           let s : Sub (bit_or x y) u = sets (sub (v 0) (v 2) ∷ sub (v 1) (v 2) ∷ []) (sub (or (v 0) (v 1)) (v 2)) (x ∷ y ∷ u ∷ []) tt (inside_whole pieces x b.0) (inside_whole pieces y b.1) in
           absurd (omega (arith, size_mono (bit_or x y) u s, size_disjoint x y (M.twins i h).apart, size_of_first ms i, size_of_second r ms M i h))
 
+-- the words of the i-th of n chunks of four
+chunk_word : (n : ℕ) (words : List ℕ) (i k : ℕ) (d : List ℕ) → i < n → k < 4 → get_or (get_or (first_chunks 4 n words) i d) k 0 ≡ get_or words (4 * i + k) 0
+chunk_word zero words i k d h g = absurd (omega arith)
+chunk_word (suc n) words zero k d h g = get_or-take 4 words k 0 g ∙ ap (λ (j : ℕ). get_or words j 0) (omega arith)
+chunk_word (suc n) words (suc i) k d h g = chunk_word n (drop 4 words) i k d (omega arith) g ∙ get_or-drop 4 words (4 * i + k) 0 ∙ ap (λ (j : ℕ). get_or words j 0) (omega arith)
+
+-- the matches from .. matches as chunks of four words
+module _ {r : Bytes} {ms : List Pair} {words pieces own : List ℕ} {all : ℕ} (M : Laws r ms) (S : Scanning words ms pieces own all)
+    {matches : ℕ} (count : matches ≡ length ms) {chunks : List (List ℕ)} (front : chunks ≡ first_chunks 4 (length words / 4) words) (from : ℕ) where
+  row_size : (k : ℕ) (d : List ℕ) → k < matches - from → get_or (get_or (take (matches - from) (drop from chunks)) k d) 3 0 ≡ size_of ms (from + k)
+  row_size k d h =
+      ap (λ (row : List ℕ). get_or row 3 0) (get_or-take (matches - from) (drop from chunks) k d h ∙ get_or-drop from chunks k d ∙ ap (λ (l : List (List ℕ)). get_or l (from + k) d) front)
+      ∙ chunk_word (length words / 4) words (from + k) 3 d (omega (arith, S.room)) (omega arith)
+      ∙ S.recorded.sized (from + k) (omega arith)
+
+  -- sizes never grow
+  pub rows_parted : (half : ℕ) → IsPartitionedBy (λ row. ltb half (get_or row 3 0)) (take (matches - from) (drop from chunks))
+  rows_parted half = λ i j d a b e.
+      let g : j < matches - from = omega (arith, length-take (matches - from) (drop from chunks)) in
+      let big : half < size_of ms (from + j) = ltb-true half (size_of ms (from + j)) (rw (row_size j d g) at e) in
+      rw (row_size i d (omega arith)) (lt-ltb half (size_of ms (from + i)) (omega (arith, M.falls (from + i) (from + j) (omega arith) (omega arith))))
+
+  -- those above half of all bonds are not removable
+  pub rows_passed : (half n : ℕ) → half ≡ size all / 2 → n ≤ matches - from → from ≤ matches
+      → AllWithin (λ row. ltb half (get_or row 3 0) ≡ true) (take (matches - from) (drop from chunks)) 0 n → Passes ms pieces from (from + n)
+  rows_passed half n e l k h = record {
+    after = omega arith;
+    within = omega arith;
+    none = λ i a b. let e : from + (i - from) ≡ i = omega arith in rw e at (passed (i - from) (omega arith));
+  }
+    where
+      passed : (j : ℕ) → j < n → goes ms pieces (from + j) ≡ false
+      passed j g =
+          let big : half < size_of ms (from + j) = ltb-true half (size_of ms (from + j)) (rw (row_size j [] (omega arith)) at (h j [] (omega arith) g)) in
+          too_large r ms M pieces (from + j) (omega arith) (omega (arith, ap size S.whole))
+
 -- what is told from a match on is told from an earlier one, where none between is removable
 pub told_earlier : (ms : List Pair) (pieces : List ℕ) (from n start largest : ℕ) (masks : List ℕ) → Passes ms pieces from n → Told ms pieces n masks largest start → Told ms pieces from masks largest start
 told_earlier ms pieces from n start largest masks P T =
@@ -294,12 +334,6 @@ module _ (r : Bytes) (at touch words : List ℕ) (matches : ℕ) (S : Searched r
   struck_is : get_or words (4 * m + 2) 0 ≡ struck (pairs r) m
   unfolding struck
   struck_is = S.recorded.both m C.within
-
-  pub word_place : (k : ℕ) → k < 4 → 4 * m + k < length words
-  word_place k h = omega (arith, S.room, S.count, C.within)
-
-  pub word_size : get_or words (4 * m + 3) 0 ≤ 32
-  word_size = omega (arith, S.recorded.sized m C.within, size_most r S.ok m C.within)
 
   pub below_asks : s.removed ≤ length s.removals
       → Big held × (bonds_left (get_or words (4 * m + 2) 0) held + 2 ≤ 64) × (m < 2 ^ 32) × (1 ≤ get_or words (4 * m + 3) 0) × (get_or words (4 * m + 3) 0 - 1 ≤ s.index) × (s.removed < 32)

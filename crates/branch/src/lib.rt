@@ -14,7 +14,7 @@ use state::{State, scan};
 
 // What the removals of a state are tried from: for each bond the piece that has it, and all bonds in pieces; the pieces held, so many; the least
 // size tried; the number of the first removable match.
-#[derive(Clone, Copy)]
+#[derive(Clone, Copy, Debug, PartialEq, Eq)]
 pub struct Branch {
     pub own: [u64; 64],
     pub all: u64,
@@ -28,10 +28,7 @@ pub struct Branch {
 pub fn has(bounds: u32, bound: u32) -> bool
     ensures { result ≡ (eqb bounds bound || eqb bounds 3) }
 {
-    if bounds == bound {
-        return true;
-    }
-    bounds == 3
+    bounds == bound || bounds == 3
 }
 
 // The least size tried: 2 with MatchableEdges off.
@@ -47,31 +44,23 @@ fn least_tried(
         → Sub (get_or masks.now k 0) (get_or masks.now 2 0)) }
     ensures { result ≡ least_tried bounds (λ k. get_or masks.now k 0) pieces.now index best largest }
 {
-    if !has(bounds, 2) {
-        return 2;
+    if has(bounds, 2) {
+        u64::from(bounds::least_size(masks, pieces, index, best, largest))
+    } else {
+        2
     }
-    bounds::least_size(masks, pieces, index, best, largest) as u64
 }
 
-// The first match from a number on that is not too large for the pieces, whose union is all; the number of the matches where there is none. Along
-// the table sizes never grow.
+// Where the matches begin, from a number on, that are not too large for the pieces, whose union is all: their two fragments are no more bonds than
+// these. Along the table, which has four words a match, sizes never grow.
 fn first_fitting(pairs: &[u64], from: usize, matches: usize, all: u64) -> usize
     requires { (from ≤ matches) × ((ms : List Pair) × (pieces : List ℕ) × (own : List ℕ) × Scanning pairs.now ms pieces own all × (matches ≡ length ms)) }
     ensures { (bytes : Bytes) (ms : List Pair) (pieces own : List ℕ) → Laws bytes ms → Scanning pairs.now ms pieces own all
         → matches ≡ length ms → Passes ms pieces from result }
 {
-    let bonds = bitset::size(all) as u64;
-    let mut low = from;
-    let mut high = matches;
-    while low < high {
-        let middle = low + (high - low) / 2;
-        if bonds < 2 * pairs[4 * middle + 3] {
-            low = middle + 1;
-            continue;
-        }
-        high = middle;
-    }
-    low
+    let half = u64::from(bitset::size(all)) / 2;
+    let (rows, _) = pairs.as_chunks::<4>();
+    from + rows[from..matches].partition_point(|row| half < row[3])
 }
 
 // The bonds in the removable matches from .. matches of each size go to masks; those too large are passed over at once.
@@ -107,29 +96,20 @@ pub fn branch_of(
     ensures { (bytes : Bytes) (at : List ℕ) → Searched bytes at touch.now pairs.now matches → Entered bytes s
         → Branched bytes pairs.now bounds s best result }
 {
-    let pieces = s.pieces;
-    let k = s.count;
-    let own = scan::owners(&pieces[0..k]);
-    let all = scan::whole(&pieces[0..k]);
+    let pieces = &s.pieces[..s.count];
+    let own = scan::owners(pieces);
+    let all = scan::whole(pieces);
     let mut masks = [0u64; 33];
     let scanned = crate::masks(pairs, s.next, matches, &own, all, &mut masks);
     let mut held = [0u64; 32];
-    let kept = masks[2];
-    let count = state::keep(touch, &pieces[0..k], kept, &mut held);
-    let least = least_tried(
-        bounds,
-        &masks,
-        &pieces[0..k],
-        s.index,
-        best,
-        scanned.largest,
-    );
+    let count = state::keep(touch, pieces, masks[2], &mut held);
+    let least = least_tried(bounds, &masks, pieces, s.index, best, scanned.largest);
     Branch {
-        own: own,
-        all: all,
-        held: held,
-        count: count,
-        least: least,
+        own,
+        all,
+        held,
+        count,
+        least,
         first: scanned.first,
     }
 }
@@ -148,17 +128,15 @@ pub fn next(
     ensures { (bytes : Bytes) (ms : List Pair) (pieces : List ℕ) → Laws bytes ms
         → Scanning pairs.now ms pieces own.now all → matches ≡ length ms → Next bytes ms pieces least from result }
 {
-    let mut i = from;
-    while i < matches {
+    for i in from..matches {
         if pairs[4 * i + 3] < least {
             return matches;
         }
         if scan::is_removable(pairs, i, own, all) {
             return i;
         }
-        i += 1;
     }
-    i
+    matches
 }
 
 // The state after match m is removed.

@@ -14,13 +14,13 @@ use lib.Dec.{leb}
 use lib.ListN.{length, get_or, take, drop, set, length-append, take-append-drop}
 use lib.Seq.{length-take-le, take_all, take-suc, drop-cons, take_at, drop-append-add, drop-drop}
 use borrow.Author.Tests.{leb-true, le-leb, lt-leb, eqb-true, eqb-false, eq-eqb, ne_eqb}
-use Rattle.bitset.specs.Bits.{size, diff, low, is_disjoint, WithoutLowest}
+use Rattle.bitset.specs.Bits.{size, diff, low, is_disjoint, Lowest, WithoutLowest}
 use Rattle.bitset.proofs.Bools.{two}
 use Rattle.bitset.proofs.Laws.{size_empty, size_zero, size_mono, size_minus, low_bit}
 use Rattle.bitset.proofs.Members.{diff_sub, not_empty}
 use Rattle.bitset.proofs.Decide.{sets, v, and, less, sub, apart, is}
 use Rattle.molecule.specs.Lists.{Bytes, filter}
-use Rattle.molecule.specs.Touch.{parts}
+use Rattle.molecule.specs.Touch.{parts, reach}
 use Rattle.molecule.specs.Connected.{Own, Connected}
 use Rattle.molecule.proofs.Growing.{lead, rest, rest_word, rest_less, reach_one, reach_sub, parts_by, parts_step, parts_none}
 use Rattle.molecule.proofs.Components.{own_sub, components_self, components_words}
@@ -100,52 +100,66 @@ pub record Pushing (touch : List ℕ) (s k : ℕ) (old now : List ℕ) (left r :
   pub front : Front old now r (take k old ++ found)
   pub total : found ++ big_parts touch left ≡ big_parts touch s
 
-module _ (touch : List ℕ) (s k : ℕ) (old : List ℕ) where
-  pub pushing_start : 2 * k + size s ≤ 2 * length old → s < 2 ^ 64 → Pushing touch s k old old s k
-  pushing_start h w = record {
-    room = h;
-    word = w;
-    found = [];
-    front = record { count = rw append-nil (length-take-le k old (omega arith)); is = rw (append-nil, take-append-drop) };
-    total = refl;
-  }
+pub pushing_start : (touch : List ℕ) (s k : ℕ) (old : List ℕ) → 2 * k + size s ≤ 2 * length old → s < 2 ^ 64 → Pushing touch s k old old s k
+pushing_start touch s k old h w = record {
+  room = h;
+  word = w;
+  found = [];
+  front = record { count = rw append-nil (length-take-le k old (omega arith)); is = rw (append-nil, take-append-drop) };
+  total = refl;
+}
 
-  module _ (now : List ℕ) (left r : ℕ) (p : Pushing touch s k old now left r) where
-    pub pushing_length : length now ≡ length old
-    pushing_length = front_length p.front (omega (arith, p.room))
+module _ {touch : List ℕ} {s k : ℕ} {old now : List ℕ} {left r : ℕ} (p : Pushing touch s k old now left r) where
+  -- the component c of the lowest bond i of what is left is passed, or written
+  module _ (n : left ≢ 0) {i c : ℕ} (low : Lowest left i) (leads : c ≡ reach (near touch) left (2 ^ i)) where
+    is_lead : c ≡ lead (near touch) left
+    is_lead = rw (leads, low.is)
 
-    -- the component of the lowest bond is passed, or written
-    module _ (n : left ≢ 0) where
-      pub pushing_less : size (rest (near touch) left) < size left
-      pushing_less = rest_less (near touch) left n p.word
+    pub pushing_some : 0 < c
+    pushing_some = rw is_lead (lead_some touch left)
 
-      pub pushing_pass : size (lead (near touch) left) < 2 → Pushing touch s k old now (rest (near touch) left) r
-      pushing_pass h = record {
-        room = omega (arith, p.room, pushing_less);
-        word = rest_word (near touch) left p.word;
-        found = p.found;
-        front = p.front;
-        total = rw (← big_pass touch left n p.word h) p.total;
-      }
+    -- d is left then
+    module _ {d : ℕ} (rests : d ≡ diff left c) where
+      is_rest : d ≡ rest (near touch) left
+      is_rest = rw (rests, is_lead)
 
-      pub pushing_room : 2 ≤ size (lead (near touch) left) → r < length old
-      pushing_room h = omega (arith, p.room, rest_size touch left n p.word)
+      pub pushing_less : size d < size left
+      pushing_less = rw is_rest (rest_less (near touch) left n p.word)
 
-      pub pushing_take : 2 ≤ size (lead (near touch) left) → Pushing touch s k old (set now r (lead (near touch) left)) (rest (near touch) left) (r + 1)
-      pushing_take h = record {
-        room = omega (arith, p.room, rest_size touch left n p.word);
-        word = rest_word (near touch) left p.word;
-        found = p.found ++ (lead (near touch) left ∷ []);
-        front = rw (← append_assoc (take k old) p.found (lead (near touch) left ∷ [])) (front_put old now r (take k old ++ p.found) (lead (near touch) left) p.front (pushing_room h));
-        total = append_assoc p.found (lead (near touch) left ∷ []) (big_parts touch (rest (near touch) left)) ∙ ap (λ (l : List ℕ). p.found ++ l) (sym (big_take touch left n p.word h)) ∙ p.total;
-      }
+    module _ {e : ℕ} (w : WithoutLowest c e) where
+      two_lead : e ≢ 0 → 2 ≤ size (lead (near touch) left)
+      two_lead z = rw is_lead at (two_bonds c e w z)
 
-    pub pushing_done : k ≤ length old → left ≡ 0 → (r ≡ k + length (big_parts touch s)) × (now ≡ take k old ++ (big_parts touch s ++ drop r old))
-    pushing_done h z =
-        let e : p.found ≡ big_parts touch s = sym (append-nil p.found) ∙ ap (λ (l : List ℕ). p.found ++ l) (sym (ap (big_parts touch) z ∙ big_none touch)) ∙ p.total in (
-          omega (arith, p.front.count, length-append (take k old) p.found, length-take-le k old h, ap length e),
-          rw (← e) (p.front.is ∙ append_assoc (take k old) p.found (drop r old)),
-        )
+      pub pushing_room : e ≢ 0 → r < length old
+      pushing_room z = omega (arith, p.room, two_lead z, rest_size touch left n p.word)
+
+      module _ {d : ℕ} (rests : d ≡ diff left c) where
+        pub pushing_pass : e ≡ 0 → Pushing touch s k old now d r
+        pushing_pass z =
+            let one : size (lead (near touch) left) < 2 = rw is_lead at (one_bond c e w z) in
+            rw (is_rest rests) (record {
+              room = omega (arith, p.room, rest_less (near touch) left n p.word);
+              word = rest_word (near touch) left p.word;
+              found = p.found;
+              front = p.front;
+              total = rw (← big_pass touch left n p.word one) p.total;
+            })
+
+        pub pushing_take : e ≢ 0 → Pushing touch s k old (set now r c) d (r + 1)
+        pushing_take z = rw (is_rest rests, is_lead) (record {
+          room = omega (arith, p.room, two_lead z, rest_size touch left n p.word);
+          word = rest_word (near touch) left p.word;
+          found = p.found ++ (lead (near touch) left ∷ []);
+          front = rw (← append_assoc (take k old) p.found (lead (near touch) left ∷ [])) (front_put old now r (take k old ++ p.found) (lead (near touch) left) p.front (pushing_room z));
+          total = append_assoc p.found (lead (near touch) left ∷ []) (big_parts touch (rest (near touch) left)) ∙ ap (λ (l : List ℕ). p.found ++ l) (sym (big_take touch left n p.word (two_lead z))) ∙ p.total;
+        })
+
+  pub pushing_done : k ≤ length old → left ≡ 0 → (r ≡ k + length (big_parts touch s)) × (now ≡ take k old ++ (big_parts touch s ++ drop r old))
+  pushing_done h z =
+      let e : p.found ≡ big_parts touch s = sym (append-nil p.found) ∙ ap (λ (l : List ℕ). p.found ++ l) (sym (ap (big_parts touch) z ∙ big_none touch)) ∙ p.total in (
+        omega (arith, p.front.count, length-append (take k old) p.found, length-take-le k old h, ap length e),
+        rw (← e) (p.front.is ∙ append_assoc (take k old) p.found (drop r old)),
+      )
 
 -- ---- without the bonds gone
 
@@ -189,6 +203,13 @@ flat_next f l i h = rw (add-one, take-suc l i 0 h, flat_append f (take i l) (get
 pub sum_next : (w : ℕ → ℕ) (l : List ℕ) (i : ℕ) → i < length l → sum_of w (drop i l) ≡ w (get_or l i 0) + sum_of w (drop (i + 1) l)
 sum_next w l i h = rw (add-one, drop-cons l i 0 h)
 
+-- what is left of piece p with the bonds of kept alone, and how many bonds it has without those struck
+abbrev pub left : List ℕ → ℕ → ℕ → List ℕ
+left touch kept p = big_parts touch (bit_and p kept)
+
+abbrev pub room : ℕ → ℕ → ℕ
+room struck p = size (diff p struck)
+
 -- a run of elements more at the front
 pub front_join : (old now then : List ℕ) (k r : ℕ) (done more : List ℕ) → Front old now k done → r ≡ k + length more → then ≡ take k now ++ (more ++ drop r now) → Front old then r (done ++ more)
 front_join old now then k r done more w c e = record {
@@ -206,27 +227,27 @@ pub record Written (f : ℕ → List ℕ) (w : ℕ → ℕ) (spare : ℕ) (l old
   pub front : Front old now k (flat_map f (take i l))
   pub room : 2 * k + (sum_of w (drop i l) + spare) ≤ 2 * length old
 
-module _ (f : ℕ → List ℕ) (w : ℕ → ℕ) (spare : ℕ) (l old : List ℕ) where
-  pub written_start : sum_of w l + spare ≤ 2 * length old → Written f w spare l old old 0 0
-  unfolding flat_map
-  written_start h = record { within = omega arith; front = front_start old; room = omega arith }
+pub written_start : (f : ℕ → List ℕ) (w : ℕ → ℕ) (spare : ℕ) (l old : List ℕ) → sum_of w l + spare ≤ 2 * length old → Written f w spare l old old 0 0
+unfolding flat_map
+written_start f w spare l old h = record { within = omega arith; front = front_start old; room = omega arith }
 
-  pub written_length : (now : List ℕ) (i k : ℕ) → Written f w spare l old now i k → length now ≡ length old
-  written_length now i k s = front_length s.front (omega (arith, s.room))
+module _ {f : ℕ → List ℕ} {w : ℕ → ℕ} {spare : ℕ} {l old now : List ℕ} {i k : ℕ} (s : Written f w spare l old now i k) where
+  pub written_length : length now ≡ length old
+  written_length = front_length s.front (omega (arith, s.room))
 
-  pub written_room : (now : List ℕ) (i k : ℕ) → Written f w spare l old now i k → i < length l → 2 * k + (w (get_or l i 0) + spare) ≤ 2 * length now
-  written_room now i k s h = omega (arith, s.room, sum_next w l i h, written_length now i k s)
+  pub written_room : i < length l → 2 * k + (w (get_or l i 0) + spare) ≤ 2 * length now
+  written_room h = omega (arith, s.room, sum_next w l i h, written_length)
 
-  pub written_next : (now then : List ℕ) (i k r : ℕ) → Written f w spare l old now i k → i < length l → r ≡ k + length (f (get_or l i 0)) → then ≡ take k now ++ (f (get_or l i 0) ++ drop r now)
+  pub written_next : (then : List ℕ) (r : ℕ) → i < length l → r ≡ k + length (f (get_or l i 0)) → then ≡ take k now ++ (f (get_or l i 0) ++ drop r now)
       → 2 * length (f (get_or l i 0)) ≤ w (get_or l i 0) → Written f w spare l old then (i + 1) r
-  written_next now then i k r s h c e small = record {
+  written_next then r h c e small = record {
     within = omega arith;
     front = rw (flat_next f l i h) (front_join old now then k r (flat_map f (take i l)) (f (get_or l i 0)) s.front c e);
     room = omega (arith, s.room, sum_next w l i h);
   }
 
-  pub written_done : (now : List ℕ) (i k : ℕ) → Written f w spare l old now i k → length l ≤ i → Front old now k (flat_map f l)
-  written_done now i k s h = rw (take_all i l h) at s.front
+  pub written_done : length l ≤ i → Front old now k (flat_map f l)
+  written_done h = rw (take_all i l h) at s.front
 
 -- ---- what the definitions say
 

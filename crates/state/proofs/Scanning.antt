@@ -1,20 +1,24 @@
 -- The owners of bonds, fragments inside pieces, and a scan for the removable matches from the last down. Assumes nothing.
 use mathlib.Core.Path.{◌≡◌, refl, sym, ap, ◌∙◌}
 use mathlib.Core.Logic.{◌⊎◌, inl, inr, ⊎_elim}
-use mathlib.Core.Bool.{Bool, true, false, not, ◌&&◌, true≢false}
+use mathlib.Core.Bool.{Bool, true, false, ◌&&◌, true≢false}
 use mathlib.Core.List.Memᴰ.{cases_cons as mem_cons}
+use mathlib.Core.List.Memᴰ.{append_cases as mem_cases}
+use mathlib.Core.List.Memᴰ.{append_left as mem_left}
+use mathlib.Core.List.Memᴰ.{append_right as mem_right}
+use mathlib.Core.List.Memᴰ.{eq_of_singleton as mem_one}
 use mathlib.Core.List.Memᴰ.{head as m_head}
 use mathlib.Core.List.Memᴰ.{not-nil}
-use mathlib.Core.List.Memᴰ.{tail as m_tail}
 use mathlib.Core.List.{List, [], ◌∷◌, Memᴰ as Mem}
 use Prim.Native.Nat.{ℕ, zero, suc, ◌+◌, ◌-◌, ◌*◌, ◌^◌, ◌≤◌, ◌<◌, max}
 use native.Mathlib.Omega.{arith}
 use native.Mathlib.Nat.{sub_self}
 use native.Mathlib.Numerals.{add-one}
 use native.Mathlib.Decide.{ℕ_discrete}
-use borrow.Author.Tests.{eqb-true, eqb-false, eq-eqb, ne_eqb, not-true, not-false}
-use lib.ListN.{length, get_or, set, drop, replicate, length-set}
-use lib.Seq.{drop-cons, drop-length, get_or-set_same, get_or-set_other}
+use borrow.Author.Tests.{eqb-true, eqb-false, eq-eqb, ne_eqb}
+use lib.ListN.{length, get_or, set, take, replicate, length-set}
+use lib.Seq.{take-suc, get_or-set_same, get_or-set_other}
+use Rattle.std.specs.List.{fold}
 use lib.Bits.{bit_and, bit_or, or_comm, or_zero_r}
 use Rattle.bitset.specs.Bits.{bit, has, Sub, Disjoint, is_sub, unions, Lowest, WithoutLowest}
 use Rattle.bitset.proofs.Bools.{two}
@@ -24,7 +28,8 @@ use Rattle.bitset.proofs.Decide.{sets, sub, or, v}
 use Rattle.molecule.specs.Lists.{Bytes, numbers_from, any}
 use Rattle.molecule.specs.Connected.{Apart}
 use Rattle.molecule.proofs.Scans.{scan_hit, scan_next, from_none}
-use Rattle.molecule.proofs.Lists.{any_some, any_none, zeros_at, numbers_none, numbers_more}
+use Rattle.molecule.proofs.Lists.{at_mem, any_some, any_none, zeros_at, numbers_none, numbers_more}
+use Rattle.bounds.proofs.Steps.{apart_sym}
 use Rattle.matches.specs.Table.{Pair, pair, size_of}
 use Rattle.search.specs.State.{struck, inside, removable, mask_of}
 use Rattle.state.specs.Inner.Scan.{Owners, Marked, Scanning, Told, goes}
@@ -42,8 +47,8 @@ pub record Marking (old now : List ℕ) (p rest : ℕ) : Type 0 where
 pub marking_start : (old : List ℕ) (p : ℕ) → p < 2 ^ 64 → Marking old old p p
 marking_start old p h = record { few = h; long = refl; left = λ b e. e; these = λ b l e z. absurd (omega arith); others = λ b l e. refl }
 
-pub marking_next : (old now : List ℕ) (p rest i t : ℕ) → length old ≡ 64 → Marking old now p rest → Lowest rest i → WithoutLowest rest t → Marking old (set now i p) p t
-marking_next old now p rest i t n w l f = record {
+pub marking_next : {old now : List ℕ} {p rest i t : ℕ} → length old ≡ 64 → Marking old now p rest → Lowest rest i → WithoutLowest rest t → Marking old (set now i p) p t
+marking_next {old} {now} {p} {rest} {i} {t} n w l f = record {
   few = omega (arith, w.few, f.below);
   long = length-set now i p ∙ w.long;
   left = λ b e. w.left b (omega (arith, less b, bit_le rest b));
@@ -58,50 +63,43 @@ marking_next old now p rest i t n w l f = record {
     go b h e z (yes q) = rw q (get_or-set_same now i p 0 (omega (arith, w.long, l.within)))
     go b h e z (no q) = get_or-set_other now i b p 0 q ∙ w.these b h e (omega (arith, less b, bit_other i b q))
 
-pub marking_done : (old now : List ℕ) (p rest : ℕ) → Marking old now p rest → rest ≡ 0 → Marked old now p
-marking_done old now p rest w e = record { long = w.long; these = λ b h m. w.these b h m (ap (λ (s : ℕ). bit s b) e ∙ bit_empty b); others = w.others }
+pub marking_done : {old now : List ℕ} {p rest : ℕ} → Marking old now p rest → rest ≡ 0 → Marked old now p
+marking_done w e = record { long = w.long; these = λ b h m. w.these b h m (ap (λ (s : ℕ). bit s b) e ∙ bit_empty b); others = w.others }
 
 -- ---- the owners
 
-pub owners_none : (l own : List ℕ) → l ≡ [] → ((b : ℕ) → get_or own b 0 ≡ 0) → Owners l own
-owners_none l own e z = record { one = λ b p h m. absurd (not-nil (rw e at m)); none = λ b h f. z b }
+pub owners_none : (own : List ℕ) → ((b : ℕ) → get_or own b 0 ≡ 0) → Owners [] own
+owners_none own z = record { one = λ b p h m. absurd (not-nil m); none = λ b h f. z b }
 
-owners_more : (p : ℕ) (l own now : List ℕ) → ((q : ℕ) → Mem q l → Disjoint p q) → Owners l own → Marked own now p → Owners (p ∷ l) now
-owners_more p l own now d w m = record {
-  one = λ b q h n e. ⊎_elim (λ (s : q ≡ p). m.these b h (rw s at e) ∙ sym s) (λ (k : Mem q l). m.others b h (outside b q k e) ∙ w.one b q h k e) (mem_cons n);
-  none = λ b h z. m.others b h (z p (m_head refl)) ∙ w.none b h (λ q n. z q (m_tail n));
-}
+-- a piece before the i-th has no bond of it
+apart_before : (l : List ℕ) (i : ℕ) → Apart l → i < length l → (q : ℕ) → Mem q (take i l) → Disjoint (get_or l i 0) q
+apart_before [] i a h q m = absurd (omega arith)
+apart_before (x ∷ l) zero a h q m = absurd (not-nil m)
+apart_before (x ∷ l) (suc i) a h q m =
+    ⊎_elim (λ (e : q ≡ x). rw e (apart_sym x (get_or l i 0) (a.0 (get_or l i 0) (at_mem 0 l i (omega arith))))) (λ (k : Mem q (take i l)). apart_before l i a.1 (omega arith) q k) (mem_cons m)
+
+-- one piece more
+pub owners_next : (pieces : List ℕ) {own now : List ℕ} (i : ℕ) → Apart pieces → i < length pieces → Owners (take i pieces) own → Marked own now (get_or pieces i 0) → Owners (take (i + 1) pieces) now
+owners_next pieces {own} {now} i a h w m = rw (add-one i, take-suc pieces i 0 h) (record {
+  one = λ b q l n e. ⊎_elim (λ (k : Mem q (take i pieces)). m.others b l (outside b q k e) ∙ w.one b q l k e) (λ (k : Mem q (p ∷ [])). let s : q ≡ p = mem_one k in m.these b l (rw s at e) ∙ sym s) (mem_cases (take i pieces) n);
+  none = λ b l z. m.others b l (z p (mem_right (take i pieces) (m_head refl))) ∙ w.none b l (λ q n. z q (mem_left (p ∷ []) n));
+})
   where
-    outside : (b q : ℕ) → Mem q l → bit q b ≡ 1 → bit p b ≡ 0
-    outside b q n e = ⊎_elim (λ (h : bit p b ≡ 1). absurd (apart_out p q b (d q n) h e)) (λ (h : bit p b ≡ 0). h) (in_or_out p b)
+    p : ℕ
+    p = get_or pieces i 0
 
-apart_drop : (i : ℕ) (l : List ℕ) → Apart l → Apart (drop i l)
-apart_drop zero l a = a
-apart_drop (suc i) [] a = tt
-apart_drop (suc i) (x ∷ l) a = apart_drop i l a.1
-
--- one piece more, from the last on: all from number i - 1 on
-pub owners_next : (pieces own now : List ℕ) (i : ℕ) → Apart pieces → 0 < i → i ≤ length pieces → Owners (drop i pieces) own → Marked own now (get_or pieces (i - 1) 0) → Owners (drop (i - 1) pieces) now
-owners_next pieces own now i a p h w m = go (i - 1) (omega arith)
-  where
-    go : (j : ℕ) → i ≡ suc j → Owners (drop (i - 1) pieces) now
-    go j e =
-        let q : i - 1 ≡ j = omega arith in
-        let d : drop j pieces ≡ get_or pieces j 0 ∷ drop (suc j) pieces = drop-cons pieces j 0 (omega arith) in
-        rw (q, d) (owners_more (get_or pieces j 0) (drop (suc j) pieces) own now (rw d at (apart_drop j pieces a)).0 (rw e at w) (rw q at m))
+    outside : (b q : ℕ) → Mem q (take i pieces) → bit q b ≡ 1 → bit (get_or pieces i 0) b ≡ 0
+    outside b q n e = ⊎_elim (λ (k : bit (get_or pieces i 0) b ≡ 1). absurd (apart_out (get_or pieces i 0) q b (apart_before pieces i a h q n) k e)) (λ (k : bit (get_or pieces i 0) b ≡ 0). k) (in_or_out (get_or pieces i 0) b)
 
 -- ---- the union of the pieces
 
-pub whole_start : (pieces : List ℕ) → bit_or 0 (unions (λ p. p) pieces) ≡ unions (λ p. p) pieces
-whole_start pieces = or_comm 0 (unions (λ p. p) pieces) ∙ or_zero_r (unions (λ p. p) pieces)
+-- joined to s one after another
+fold_is : (l : List ℕ) (s : ℕ) → fold (λ all p. bit_or all p) s l ≡ bit_or s (unions (λ p. p) l)
+fold_is [] s = rw (unions_none (λ p. p), or_zero_r s)
+fold_is (p ∷ l) s = fold_is l (bit_or s p) ∙ rw (or_assoc s p (unions (λ p. p) l), unions_more (λ p. p) p l)
 
-pub whole_next : (pieces : List ℕ) (i s : ℕ) → i < length pieces → bit_or s (unions (λ p. p) (drop i pieces)) ≡ unions (λ p. p) pieces → bit_or (bit_or s (get_or pieces i 0)) (unions (λ p. p) (drop (i + 1) pieces)) ≡ unions (λ p. p) pieces
-whole_next pieces i s h e =
-    let q : i + 1 ≡ suc i = omega arith in
-    rw (or_assoc, q) (rw (drop-cons pieces i 0 h, unions_more (λ p. p) (get_or pieces i 0) (drop (suc i) pieces)) at e)
-
-pub whole_done : (pieces : List ℕ) (i s : ℕ) → i ≡ length pieces → bit_or s (unions (λ p. p) (drop i pieces)) ≡ unions (λ p. p) pieces → s ≡ unions (λ p. p) pieces
-whole_done pieces i s h e = sym (or_zero_r s) ∙ rw (h, drop-length, unions_none (λ p. p)) at e
+pub whole_is : (l : List ℕ) → unions (λ p. p) l ≡ fold (λ all p. bit_or all p) 0 l
+whole_is l = sym (fold_is l 0 ∙ or_comm 0 (unions (λ p. p) l) ∙ or_zero_r (unions (λ p. p) l))
 
 -- ---- inside
 
@@ -150,16 +148,13 @@ outside_whole pieces a b n = go (two (inside pieces a)) (two (inside pieces b))
     go (inl e) (inr f) = rw (e, f)
     go (inr e) f = rw e
 
--- a match by the words of the table: not all its bonds are in pieces; its first fragment is not inside; else its second decides
-module _ (words : List ℕ) (ms : List Pair) (pieces own : List ℕ) (all m : ℕ) (w : Scanning words ms pieces own all) (h : m < length ms) where
-  pub scan_outside : (r : Bool) → r ≡ is_sub (get_or words (4 * m + 2) 0) all → not r ≡ true → false ≡ goes ms pieces m
-  scan_outside r e n = sym (outside_whole pieces (pair ms m).h1 (pair ms m).h2 (rw (w.recorded.both m h, w.whole) at (sym e ∙ not-true r n)))
+-- a match that is not removable, by the words of the table: not all its bonds are in pieces, or its first fragment is not inside
+module _ {words : List ℕ} {ms : List Pair} {pieces own : List ℕ} {all m : ℕ} (w : Scanning words ms pieces own all) (h : m < length ms) where
+  pub scan_outside : {r : Bool} → r ≡ is_sub (get_or words (4 * m + 2) 0) all → r ≡ false → false ≡ goes ms pieces m
+  scan_outside e n = sym (outside_whole pieces (pair ms m).h1 (pair ms m).h2 (rw (w.recorded.both m h, w.whole) at (sym e ∙ n)))
 
-  pub scan_first : (r : Bool) → ((l : List ℕ) → Owners l own → r ≡ inside l (get_or words (4 * m) 0)) → not r ≡ true → false ≡ goes ms pieces m
-  scan_first r e n = let z : inside pieces (pair ms m).h1 ≡ false = rw (w.recorded.one m h) at (sym (e pieces w.owners) ∙ not-true r n) in rw z
-
-  pub scan_both : (r : Bool) → ((l : List ℕ) → Owners l own → r ≡ inside l (get_or words (4 * m) 0)) → not r ≡ false → (s : Bool) → ((l : List ℕ) → Owners l own → s ≡ inside l (get_or words (4 * m + 1) 0)) → s ≡ goes ms pieces m
-  scan_both r e n s f = let z : inside pieces (pair ms m).h1 ≡ true = rw (w.recorded.one m h) at (sym (e pieces w.owners) ∙ not-false r n) in rw z (f pieces w.owners ∙ ap (inside pieces) (w.recorded.other m h))
+  pub scan_first : {r : Bool} → ((l : List ℕ) → Owners l own → r ≡ inside l (get_or words (4 * m) 0)) → r ≡ false → false ≡ goes ms pieces m
+  scan_first e n = let z : inside pieces (pair ms m).h1 ≡ false = rw (w.recorded.one m h) at (sym (e pieces w.owners) ∙ n) in rw z
 
 -- ---- the removable matches from a number on
 
@@ -231,15 +226,16 @@ module _ (ms : List Pair) (pieces : List ℕ) where
   }
 
 -- one match more by the words of the table, from number i down to i - 1
-module _ (words : List ℕ) (ms : List Pair) (pieces own : List ℕ) (all : ℕ) (w : Scanning words ms pieces own all) (i start largest : ℕ) (masks : List ℕ) (p : 0 < i) (h : i ≤ length ms) (t : Told ms pieces i masks largest start) where
+module _ {words : List ℕ} {ms : List Pair} {pieces own : List ℕ} {all : ℕ} (w : Scanning words ms pieces own all) {i start largest : ℕ} {masks : List ℕ} (p : 0 < i) (h : i ≤ length ms) (t : Told ms pieces i masks largest start) where
   before : Told ms pieces (suc (i - 1)) masks largest start
   before = let e : suc (i - 1) ≡ i = omega arith in rw e t
 
-  pub told_take : length masks ≡ 33 → true ≡ goes ms pieces (i - 1) → Told ms pieces (i - 1) (set masks (get_or words (4 * (i - 1) + 3) 0) (bit_or (get_or masks (get_or words (4 * (i - 1) + 3) 0) 0) (get_or words (4 * (i - 1) + 2) 0))) (max (get_or words (4 * (i - 1) + 3) 0) largest) (i - 1)
+  pub told_take : length masks ≡ 33 → true ≡ goes ms pieces (i - 1) → Told ms pieces (i - 1) (set masks (get_or words (4 * (i - 1) + 3) 0) (bit_or (get_or masks (get_or words (4 * (i - 1) + 3) 0) 0) (get_or words (4 * (i - 1) + 2) 0))) (max largest (get_or words (4 * (i - 1) + 3) 0)) (i - 1)
   unfolding struck
   told_take n g =
       let l : i - 1 < length ms = omega arith in
-      rw (w.recorded.sized (i - 1) l, w.recorded.both (i - 1) l) (told_in ms pieces (i - 1) start largest masks l (sym g) (omega (arith, w.most (i - 1) l)) before)
+      let e : max largest (size_of ms (i - 1)) ≡ max (size_of ms (i - 1)) largest = omega arith in
+      rw (w.recorded.sized (i - 1) l, w.recorded.both (i - 1) l, e) (told_in ms pieces (i - 1) start largest masks l (sym g) (omega (arith, w.most (i - 1) l)) before)
 
   pub told_skip : false ≡ goes ms pieces (i - 1) → Told ms pieces (i - 1) masks largest start
   told_skip g = told_out ms pieces (i - 1) start largest masks (omega arith) (sym g) before

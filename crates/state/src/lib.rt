@@ -13,7 +13,7 @@ pub mod scan;
 
 // At most 32 pieces, of which so many are there; the index; the size of the largest removed; the number after the last removed; at most 32 removals,
 // of which so many are there.
-#[derive(Clone, Copy)]
+#[derive(Clone, Copy, Debug, PartialEq, Eq)]
 pub struct State {
     pub pieces: [u64; 32],
     pub count: usize,
@@ -33,7 +33,7 @@ pub fn root(n: usize) -> State
     let mut pieces = [0u64; 32];
     pieces[0] = bitset::first_n(n as u32);
     State {
-        pieces: pieces,
+        pieces,
         count: 1,
         index: n as u32 - 1,
         largest: n as u32,
@@ -51,14 +51,14 @@ fn push_big(touch: &[u64; 64], s: u64, out: &mut [u64], k: usize) -> usize
 {
     let mut rest = s;
     let mut r = k;
+    // A while: what is left falls by a component, not by its lowest member.
     while rest != 0 {
         let c = molecule::graph::component(touch, rest, bitset::lowest(rest));
         rest = bitset::difference(rest, c);
-        if bitset::without_lowest(c) == 0 {
-            continue;
+        if bitset::without_lowest(c) != 0 {
+            out[r] = c;
+            r += 1;
         }
-        out[r] = c;
-        r += 1;
     }
     r
 }
@@ -72,10 +72,8 @@ pub fn keep(touch: &[u64; 64], pieces: &[u64], kept: u64, out: &mut [u64]) -> us
         × (out.new ≡ keep bytes ms kept pieces.now ++ drop result out.old) }
 {
     let mut k = 0;
-    let mut i = 0;
-    while i < pieces.len() {
-        k = push_big(touch, bitset::common(pieces[i], kept), out, k);
-        i += 1;
+    for p in pieces {
+        k = push_big(touch, bitset::common(*p, kept), out, k);
     }
     k
 }
@@ -103,10 +101,8 @@ pub fn remove(touch: &[u64; 64], pieces: &[u64], struck: u64, h1: u64, out: &mut
         × (out.new ≡ remove bytes ms pieces.now m ++ drop result out.old) }
 {
     let mut k = 0;
-    let mut i = 0;
-    while i < pieces.len() {
-        k = push_fallen(touch, pieces[i], struck, out, k);
-        i += 1;
+    for p in pieces {
+        k = push_fallen(touch, *p, struck, out, k);
     }
     out[k] = h1;
     k + 1
@@ -133,12 +129,12 @@ pub fn child(
     let k = s.removed;
     removals[k] = m as u32;
     State {
-        pieces: pieces,
-        count: count,
+        pieces,
+        count,
         index: s.index - (size - 1),
         largest: size,
         next: m + 1,
-        removals: removals,
+        removals,
         removed: k + 1,
     }
 }

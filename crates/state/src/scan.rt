@@ -26,11 +26,8 @@ pub fn owners(pieces: &[u64]) -> [u64; 64]
     ensures { Owners pieces.now result }
 {
     let mut own = [0u64; 64];
-    let mut i = pieces.len();
-    while 0 < i {
-        i -= 1;
-        let p = pieces[i];
-        mark(&mut own, p);
+    for p in pieces {
+        mark(&mut own, *p);
     }
     own
 }
@@ -39,13 +36,7 @@ pub fn owners(pieces: &[u64]) -> [u64; 64]
 pub fn whole(pieces: &[u64]) -> u64
     ensures { result ≡ unions (λ p. p) pieces.now }
 {
-    let mut all = 0;
-    let mut i = 0;
-    while i < pieces.len() {
-        all = bitset::union(all, pieces[i]);
-        i += 1;
-    }
-    all
+    pieces.iter().fold(0, |all, p| bitset::union(all, *p))
 }
 
 // Whether h is whole inside a piece: it is a subset of the piece that has its lowest bond.
@@ -63,27 +54,16 @@ pub fn is_removable(pairs: &[u64], m: usize, own: &[u64; 64], all: u64) -> bool
     ensures { (ms : List Pair) → (pieces : List ℕ) → Scanning pairs.now ms pieces own.now all → m < length ms
         → result ≡ goes ms pieces m }
 {
-    if !bitset::is_subset(pairs[4 * m + 2], all) {
-        return false;
-    }
-    if !is_inside(own, pairs[4 * m]) {
-        return false;
-    }
-    is_inside(own, pairs[4 * m + 1])
+    bitset::is_subset(pairs[4 * m + 2], all)
+        && is_inside(own, pairs[4 * m])
+        && is_inside(own, pairs[4 * m + 1])
 }
 
 // The largest size of a removable match, 0 for none; and the number of the first, that of the matches where there is none.
-#[derive(Clone, Copy)]
+#[derive(Clone, Copy, Debug, PartialEq, Eq)]
 pub struct Scanned {
     pub largest: u32,
     pub first: usize,
-}
-
-// The larger of two.
-fn larger(x: u32, y: u32) -> u32
-    ensures { result ≡ max x y }
-{
-    if x < y { y } else { x }
 }
 
 // The bonds in the removable matches from .. matches of each size go to masks. The scan goes from the last match down.
@@ -102,21 +82,15 @@ pub fn masks(
         → matches ≡ length ms → Told ms pieces from masks.new result.largest result.first }
 {
     clear::zero(masks);
-    let mut largest = 0;
+    let mut largest = 0u32;
     let mut first = matches;
-    let mut i = matches;
-    while from < i {
-        i -= 1;
+    for i in (from..matches).rev() {
         if is_removable(pairs, i, own, all) {
             let k = pairs[4 * i + 3] as usize;
             masks[k] = bitset::union(masks[k], pairs[4 * i + 2]);
-            largest = larger(k as u32, largest);
+            largest = largest.max(k as u32);
             first = i;
-            continue;
         }
     }
-    Scanned {
-        largest: largest,
-        first: first,
-    }
+    Scanned { largest, first }
 }
