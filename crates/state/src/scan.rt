@@ -12,11 +12,8 @@ fn mark(own: &mut [u64], p: u64)
     requires { length own.old ≡ 64 }
     ensures { Marked own.old own.new p }
 {
-    let mut rest = p;
-    while rest != 0 {
-        let b = bitset::lowest(rest) as usize;
-        own[b] = p;
-        rest = bitset::without_lowest(rest);
+    for b in bitset::ascending(p) {
+        own[b as usize] = p;
     }
 }
 
