@@ -1,14 +1,7 @@
 -- score's answer, row by row, what is lent to it afterwards, and demand 3. Assumes nothing.
-use mathlib.Core.Path.{◌≡◌, refl, sym, ap, ◌∙◌, subst}
-use mathlib.Core.Bool.{Bool, true, false, ◌||◌}
-use mathlib.Core.Logic.{◌⊎◌, inl, inr, ⊎_elim}
-use mathlib.Core.List.{List, [], ◌++◌}
-use Prim.Native.Nat.{ℕ, ◌-◌, ◌*◌, ◌≤◌, ◌<◌}
-use native.Mathlib.Omega.{arith}
-use lib.ListN.{length, take, drop, replicate, length-take, length-replicate}
-use lib.Seq.{take_at}
-use lib.Dec.{ltb}
-use borrow.Author.Tests.{lt-ltb, le-ltb, le-leb, lt-leb}
+use Rattle.std.proofs.Common.{◌≡◌, refl, sym, ap, ◌∙◌, Bool, true, false, ◌||◌, ⊎_elim, List, [], ◌++◌, ℕ, ◌-◌, ◌*◌, ◌≤◌, ◌<◌, arith, length, take, drop, replicate, length-take, take_at, ltb, lt-ltb, le-ltb, le-leb}
+use Rattle.std.proofs.Math.ListN.{length-replicate}
+use borrow.Author.Tests.{lt-leb}
 use Rattle.bitset.proofs.Bools.{or_left, or_right}
 use Rattle.molecule.specs.Lists.{Bytes}
 use Rattle.molecule.specs.Check.{Answer, accepted, refused, row, check}
@@ -17,7 +10,7 @@ use Rattle.molecule.specs.declared.Fault.{Fault}
 use Rattle.molecule.specs.declared.Fault.TheVariants as fault
 use Rattle.molecule.proofs.RowLaws.{row_hit, row_pass}
 use Rattle.molecule.proofs.Lists.{zeros_at}
-use Rattle.matches.specs.Table.{Table, match_table, pairs}
+use Rattle.matches.specs.Table.{match_table, pairs}
 use Rattle.matches.specs.Rows.{table_answer}
 use Rattle.matches.specs.Inner.Written.{Recorded}
 use Rattle.tabulate.specs.Built as built
@@ -25,18 +18,17 @@ use Rattle.tabulate.specs.Inner.PairsLeft.{pairs_after}
 use Rattle.matches.proofs.Laws.{pairs_length, table_refused, table_fits}
 use Rattle.tabulate.proofs.Answering.{counted_is, refused_is, after_room, after_recorded, after_length}
 use Rattle.search.specs.Setting.{Setting, Room, memo_room}
+use Rattle.search.specs.Memo.{Entry}
 use Rattle.search.specs.Search as definition
 use Rattle.search.specs.Answer.{ScoreAnswer, scored, turned_back, entry_answer, searched, score_answer, trail_after, table_after}
 use Rattle.search.specs.Answer.{Finished}
-use Rattle.search.specs.Inner.Claims.{Ends}
 use Rattle.search.proofs.Score as score
-use Rattle.assembly.specs.declared.answer.Score.{Score}
 use Rattle.assembly.specs.declared.answer.Scored.{Scored}
 use Rattle.assembly.specs.declared.answer.Scored.TheVariants as says
-use Rattle.recurse.specs.declared.visit.Outcome.{Outcome}
+use Rattle.recurse.specs.declared.visit.Found.{Found}
 use Rattle.desk.specs.Inner.Cached.{Cached}
 use Rattle.memoize.specs.Inner.Stored.{Stored}
-use Rattle.recurse.specs.Inner.Follows.{Follows}
+use Rattle.recurse.specs.Inner.Follows.{found_as}
 use Rattle.assembly.specs.Answer.{Loan, room_of, answer_of, answer_to, Leaves}
 use Rattle.assembly.specs.Contract.{Answers}
 use Rattle.assembly.specs.Inner.Parts.{search_answer, AnswerTold, Admitted, TablesZero}
@@ -208,60 +200,30 @@ stored_zeros r words n e = stored_none r words (λ i. rw e (zeros_at n i))
 pub cached_zeros : (r : Bytes) (words : List ℕ) (n : ℕ) → words ≡ replicate n 0 → 4096 ≤ n → Cached r words
 cached_zeros r words n e h = cached_none r words (rw (e, length-replicate) h) (λ i. rw e (zeros_at n i))
 
--- what the code's outcome says where it is that of the definition, case by case
-module _ (r : Bytes) (best : ℕ) (o : Outcome) (words : List ℕ) where
-  answer_short : (x : definition.Outcome) → Follows r best o words x → o.row ≡ 0 → o.length ≤ 32
-  answer_short (definition.answers a t run) w z = w.2
-  answer_short (definition.halts k p) w z = absurd (w.0 z)
+-- a search with a memo table of m words, which is as long as it was: score's answer, by what the search is
+module _ (r : Bytes) (setting : Setting) (memo : List ℕ) (m : ℕ) (same : m ≡ length memo) where
+  answer_is : (x : definition.Outcome) → definition.search r (pairs r) setting (memo_room m) ≡ x → search_answer r setting memo ≡ searched (match_table r) x
+  answer_is x e = ap (searched (match_table r)) (ap (λ (k : ℕ). definition.search r (pairs r) setting (memo_room k)) (sym same) ∙ e)
 
-  answer_scored : (x : definition.Outcome) → Follows r best o words x → o.row ≡ 0 → length o.trail ≡ 32 → (t : Table) (n : ℕ) → n ≡ length t.matches → (old end : List ℕ)
-      → end ≡ take o.length o.trail ++ (replicate (32 - o.length) 0 ++ drop 32 old) → (scored o.answer n o.run.states (take o.length end) ≡ searched t x) × (end ≡ trail_after (searched t x) old)
+  -- what is found, whose removals are written into the trail: a score
+  pub told_score : (o : Found) (k : List Entry) → definition.search r (pairs r) setting (memo_room m) ≡ found_as o k → length o.trail ≡ 32 → o.length ≤ 32
+      → (n : ℕ) → n ≡ length (pairs r) → (old : List ℕ)
+      → AnswerTold (search_answer r setting memo) (says.Score (record { index = o.index; matches = n; states = o.run.states; length = o.length })) old
+      (take o.length o.trail ++ (replicate (32 - length (take o.length o.trail)) 0 ++ drop 32 old))
   unfolding searched trail_after
-  answer_scored (definition.answers a τ run) w z l t n c old end e =
-      let k : length (take o.length o.trail) ≡ o.length = simp length-take (omega (arith, w.2)) in
-      let f : take o.length end ≡ τ = ap (take o.length) e ∙ take_at (take o.length o.trail) (replicate (32 - o.length) 0 ++ drop 32 old) o.length k ∙ w.3 in
-      let g : o.length ≡ length τ = sym k ∙ ap length w.3 in
-      (rw (w.1, c, w.6, f), rw (← g, ← w.3) e)
-  answer_scored (definition.halts k p) w z l t n c old end e = absurd (w.0 z)
+  told_score o k e l few n c old =
+      let τ : List ℕ = take o.length o.trail in
+      let front = take_at τ (replicate (32 - length τ) 0 ++ drop 32 old) o.length (simp length-take (omega arith)) in
+      rw (answer_is _ e, c ∙ pairs_length (match_table r)) (record { answer = ap (scored o.index (length (match_table r).matches) o.run.states) front; ends = refl })
 
-  answer_halted : (x : definition.Outcome) → Follows r best o words x → (o.row ≡ 0 → ⊥) → (t : Table) (old : List ℕ) → (turned_back o.row o.place ≡ searched t x) × (old ≡ trail_after (searched t x) old)
+  -- rows 11 and 12, and the trail as it was
+  pub told_budget : (n : ℕ) → definition.search r (pairs r) setting (memo_room m) ≡ definition.halts 11 n → (old : List ℕ) → AnswerTold (search_answer r setting memo) (says.Budget n) old old
   unfolding searched trail_after
-  answer_halted (definition.answers a τ run) w z t old = absurd (z w.0)
-  answer_halted (definition.halts k p) w z t old = (rw (w.1, w.2), refl)
+  told_budget n e old = rw (answer_is _ e) (record { answer = refl; ends = refl })
 
-  answer_row : (setting : Setting) (x : definition.Outcome) → Follows r best o words x → Ends setting x → (o.row ≡ 0 → ⊥) → (o.row ≡ 11) ⊎ (o.row ≡ 12)
-  answer_row setting (definition.answers a τ run) w h z = absurd (z w.0)
-  answer_row setting (definition.halts k p) w (inl h) z = inl (w.1 ∙ h.0)
-  answer_row setting (definition.halts k p) w (inr h) z = inr (w.1 ∙ h.0)
-
--- a search with a memo table of m words, which is as long as it was
-module _ (r : Bytes) (ok : check r ≡ accepted) (setting : Setting) (best : ℕ) (o : Outcome) (words memo : List ℕ) (m : ℕ) (same : m ≡ length memo) (found : Follows r best o words (definition.search r (pairs r) setting (memo_room m))) where
-  follows : Follows r best o words (definition.search r (pairs r) setting (memo_room (length memo)))
-  follows = subst (λ (k : ℕ). Follows r best o words (definition.search r (pairs r) setting (memo_room k))) same found
-
-  module _ (zero : o.row ≡ 0) where
-    -- an answer has at most 32 removals
-    pub found_short : o.length ≤ 32
-    found_short = answer_short r best o words (definition.search r (pairs r) setting (memo_room (length memo))) follows zero
-
-    -- they are written into the trail: a score
-    pub found_scored : length o.trail ≡ 32 → (s : Score) → s.index ≡ o.answer → s.matches ≡ length (pairs r) → s.states ≡ o.run.states → s.length ≡ o.length → (old end : List ℕ)
-        → end ≡ take o.length o.trail ++ (replicate (32 - o.length) 0 ++ drop 32 old) → AnswerTold (search_answer r setting memo) (says.Score s) old end
-    found_scored l s i c n k old end e =
-        let w = answer_scored r best o words (definition.search r (pairs r) setting (memo_room (length memo))) follows zero l (match_table r) s.matches (c ∙ pairs_length (match_table r)) old end e in
-        record { answer = rw (i, n, k) w.0; ends = w.1 }
-
-  -- row 11 or 12, and the trail as it was
-  module _ (some : o.row ≡ 0 → ⊥) (old : List ℕ) where
-    halted : (turned_back o.row o.place ≡ search_answer r setting memo) × (old ≡ trail_after (search_answer r setting memo) old)
-    halted = answer_halted r best o words (definition.search r (pairs r) setting (memo_room (length memo))) follows some (match_table r) old
-
-    pub found_eleven : o.row ≡ 11 → AnswerTold (search_answer r setting memo) (says.Budget o.place) old old
-    found_eleven e = record { answer = rw e at halted.0; ends = halted.1 }
-
-    pub found_twelve : (o.row ≡ 11 → ⊥) → AnswerTold (search_answer r setting memo) (says.Memo o.place) old old
-    found_twelve f = ⊎_elim (λ (e : o.row ≡ 11). absurd (f e)) (λ (e : o.row ≡ 12). record { answer = rw e at halted.0; ends = halted.1 })
-        (answer_row r best o words setting (definition.search r (pairs r) setting (memo_room (length memo))) follows (score.accepted_ends r ok setting (memo_room (length memo))) some)
+  pub told_memo : (n : ℕ) → definition.search r (pairs r) setting (memo_room m) ≡ definition.halts 12 n → (old : List ℕ) → AnswerTold (search_answer r setting memo) (says.Memo n) old old
+  unfolding searched trail_after
+  told_memo n e old = rw (answer_is _ e) (record { answer = refl; ends = refl })
 
 -- ---- demand 3
 

@@ -1,10 +1,8 @@
 -- Document 01, 'Molecules to try': the starred rows as score answers them, by its contract. Assumes nothing.
-use mathlib.Core.Path.{◌≡◌, ◌∙◌}
+use Rattle.std.proofs.Common.{◌≡◌, ◌∙◌, List, [], ◌∷◌, map, ⊎_elim, ℕ}
 use mathlib.Core.List.Memᴰ.{cases_cons as mem_cons}
 use mathlib.Core.List.Memᴰ.{not-nil}
-use mathlib.Core.List.{List, [], ◌∷◌, map, Memᴰ as Mem}
-use mathlib.Core.Logic.{⊎_elim}
-use Prim.Native.Nat.{ℕ}
+use mathlib.Core.List.{Memᴰ as Mem}
 use Rattle.search.specs.Answer.{ScoreAnswer, score_answer}
 use Rattle.search.specs.Examples.{Row, starred, starred_rows}
 use Rattle.assembly.specs.declared.answer.Scored.{Scored}

@@ -8,6 +8,7 @@ ghost use Rattle.assembly.specs.Inner.Parts.{search_answer, AnswerTold};
 use crate::answer::{Score, Scored};
 use crate::trail as numbers;
 use recurse::run;
+use recurse::visit::Halt;
 use search::Setting;
 
 // The search of an accepted record, whose matches are at the front of pairs; memo and desk may hold anything. A score's removals go to the trail.
@@ -27,22 +28,17 @@ pub fn find(
     clear::zero(memo);
     clear::zero(desk);
     let words = 4 * matches as usize;
-    let out = run::run(bytes, &pairs[0..words], setting, memo, desk);
-    let row = out.row;
-    if row == 0 {
-        let removals = out.trail;
-        let k = out.length;
-        numbers::write(&removals, k, trail);
-        let last = out.run;
-        return Scored::Score(Score {
-            index: out.answer,
-            matches: matches,
-            states: last.states,
-            length: k as u32,
-        });
+    match run::run(bytes, &pairs[..words], setting, memo, desk) {
+        Ok(found) => {
+            numbers::write(&found.trail[..found.length], trail);
+            Scored::Score(Score {
+                index: found.index,
+                matches,
+                states: found.run.states,
+                length: found.length as u32,
+            })
+        }
+        Err(Halt::Budget(n)) => Scored::Budget(u64::from(n)),
+        Err(Halt::Memo(n)) => Scored::Memo(u64::from(n)),
     }
-    if row == 11 {
-        return Scored::Budget(out.place);
-    }
-    Scored::Memo(out.place)
 }

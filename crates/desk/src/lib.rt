@@ -8,7 +8,7 @@ ghost use Rattle.canonize.specs.Inner.Slate.{Slate, kept, Labels};
 ghost use Rattle.desk.specs.Inner.Cached.{Stands, Cached, Lent};
 
 // The hash of a set's label, and a set that stands for it.
-#[derive(Clone, Copy)]
+#[derive(Clone, Copy, Debug, PartialEq, Eq)]
 pub struct Known {
     pub hash: u64,
     pub set: u64,

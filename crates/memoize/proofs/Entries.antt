@@ -1,21 +1,13 @@
 -- Entries in the table and in their buckets: looking a key up, adding an entry, and changing one. Assumes nothing.
-use mathlib.Core.Path.{◌≡◌, refl, sym, ap, ap₂, ◌∙◌}
-use mathlib.Core.Logic.{◌≢◌}
-use mathlib.Core.Bool.{false}
-use mathlib.Core.List.{List, [], ◌∷◌, ◌++◌, map}
-use Prim.Native.Nat.{ℕ, zero, suc, ◌+◌, ◌-◌, ◌*◌, ◌/◌, ◌%◌, ◌≤◌, ◌<◌}
-use native.Mathlib.Nat.{mod-lt, zero-add}
-use native.Mathlib.Numerals.{add-one}
+use Rattle.std.proofs.Common.{◌≡◌, refl, sym, ap, ◌∙◌, ◌≢◌, false, List, [], ◌∷◌, ◌++◌, map, ℕ, zero, suc, ◌+◌, ◌-◌, ◌*◌, ◌/◌, ◌%◌, ◌≤◌, ◌<◌, mod-lt, zero-add, add-one, arith, length, get_or, set, take, drop, length-append, length-set, length-drop, length-take-le, get_or-take, get_or-drop, get_or-set_same, get_or-set_other, ext_get_or, eq-eqb, ne_eqb, Some}
 use native.Mathlib.Decide.{ℕ_discrete, dec_lt}
-use native.Mathlib.Omega.{arith}
-use lib.ListN.{length, get_or, set, take, drop, length-append, length-set, length-drop, get_or-append}
-use lib.Seq.{length-take-le, get_or-take, get_or-drop, get_or_at, get_or-set_same, get_or-set_other, ext_get_or}
-use borrow.Author.Tests.{eq-eqb, ne_eqb}
+use Rattle.std.proofs.Math.ListN.{get_or-append}
+use Rattle.std.proofs.Math.Seq.{get_or_at}
 use Rattle.molecule.specs.Lists.{Bytes}
 use Rattle.canonize.specs.Strings.{sort, hash}
 use Rattle.canonize.specs.Label.{label}
 use Rattle.search.specs.Memo.{Entry, same_key}
-use Rattle.memoize.specs.Inner.Stored.{labels, hash_sum, Sized, removals_at, EntryWords, last_in, Chained, none, Stored, Located, Filled, Put}
+use Rattle.memoize.specs.Inner.Stored.{labels, hash_sum, removals_at, EntryWords, last_in, Chained, none, Stored, Located, Filled, Put}
 use Rattle.memoize.proofs.Keys.{key_differ, sort_length, labels_length}
 use Rattle.memoize.proofs.Filling.{apart}
 
@@ -39,9 +31,6 @@ part_moved old b now c n h g f =
     part_is now c n (take n (drop b old)) g (part_length old b n h) (λ j l. f j l ∙ sym (get_or-take n (drop b old) j 0 l ∙ get_or-drop b old j 0))
 
 -- ---- entries
-
-pub entry_sized : {r : Bytes} {words : List ℕ} {base : ℕ} {x : Entry} → EntryWords r words base x → Sized words base
-entry_sized h = record { wide = h.block.wide; few = h.few }
 
 -- the same words elsewhere
 module _ {r : Bytes} {old : List ℕ} {b : ℕ} {x : Entry} (h : EntryWords r old b x) (now : List ℕ) (c : ℕ) (w : c + 80 ≤ length now)
@@ -114,10 +103,6 @@ module _ {r : Bytes} {words new : List ℕ} {base : ℕ} {x y : Entry} (h : Entr
 
   pub key_count : get_or words (base + 64) 0 ≢ get_or new 64 0 → false ≡ same_key y.key x.key
   key_count n = sym (key_differ y.key x.key (λ q. n (sym (entry_count h) ∙ ap length (sym q) ∙ entry_count g)))
-
-  pub key_block : get_or words (base + 64) 0 ≡ get_or new 64 0
-      → same_key (sort (labels r new 0 (get_or new 64 0))) (sort (labels r words base (get_or new 64 0))) ≡ same_key y.key x.key
-  key_block q = ap₂ same_key g.key (rw q at h.key)
 
 -- ---- buckets
 
@@ -226,27 +211,8 @@ module _ {r : Bytes} {words : List ℕ} {entries : ℕ} {memo : List Entry} (s :
         go i a b (no l) (yes q) = rw q d
         go i a b (no l) (no q) = w.passed i (omega arith) b
 
-    pub walking_hit : k ≢ 0 → (get_or memo (k - 1) none).key ≡ key → Located memo key (k - 1)
-    walking_hit n e = record {
-      within = omega (arith, s.count, walking_within n);
-      hit = λ l. e;
-      none = λ l. absurd (omega (arith, s.count, walking_within n));
-    }
-
-    pub walking_none : k ≡ 0 → Located memo key entries
-    walking_none e = record {
-      within = omega (arith, s.count);
-      hit = λ l. absurd (omega (arith, s.count));
-      none = λ l i h. w.passed i (omega arith) (omega (arith, s.count));
-    }
-
-  -- no room, no entry
-  pub located_nowhere : room ≡ 0 → Located memo key entries
-  located_nowhere e = record {
-    within = omega (arith, s.count);
-    hit = λ l. absurd (omega (arith, s.count));
-    none = λ l i h. absurd (omega (arith, s.count, s.fits));
-  }
+    pub walking_hit : k ≢ 0 → (get_or memo (k - 1) none).key ≡ key → Located memo key (Some (k - 1))
+    walking_hit n e = (omega (arith, s.count, walking_within n), e)
 
 -- ---- a table of zeros
 

@@ -1,23 +1,15 @@
 -- Keys: two sorted lists of labels are equal where one list is a permutation of the other, and taking labels out one at a time decides that. Assumes nothing.
-use mathlib.Core.Path.{◌≡◌, refl, sym, ap, ap₂, ◌∙◌}
-use mathlib.Core.Logic.{◌≢◌, ◌⊎◌, inl, inr}
-use mathlib.Core.Bool.{true, false, false≢true}
-use mathlib.Core.List.{List, [], ◌∷◌, ◌++◌, map}
+use Rattle.std.proofs.Common.{◌≡◌, refl, sym, ap, ap₂, ◌∙◌, ◌≢◌, ◌⊎◌, inl, inr, true, false, List, [], ◌∷◌, ◌++◌, map, ℕ, zero, suc, ◌+◌, ◌^◌, ◌≤◌, ◌<◌, zero-add, add-one, arith, length, get_or, take, drop, length-drop, drop_of_length-le, take-suc, drop-cons, length-take-le, get_or-take, get_or-drop, eq-eqb, ne_eqb, bit_or}
+use Rattle.std.proofs.lemmas.Bool.{false≢true}
 use mathlib.Core.List.Permᴰ.{symm as perm_sym}
 use mathlib.Core.List.{Permᴰ as Perm}
 use mathlib.Core.List.Permᴰ.{cons as p_cons}
 use mathlib.Core.List.Permᴰ.{nil as p_nil}
 use mathlib.Core.List.Permᴰ.{swap as p_swap}
 use mathlib.Core.List.Permᴰ.{trans as p_trans}
-use Prim.Native.Nat.{ℕ, zero, suc, ◌+◌, ◌^◌, ◌≤◌, ◌<◌}
-use native.Mathlib.Nat.{zero-add}
-use native.Mathlib.Numerals.{add-one}
 use native.Mathlib.Decide.{ℕ_discrete}
-use native.Mathlib.Omega.{arith}
-use lib.Bits.{bit_or}
-use lib.ListN.{length, get_or, take, drop, length-drop, length-map, drop_of_length-le, get_or-map}
-use lib.Seq.{take-suc, drop-cons, length-take-le, get_or-take, get_or-drop}
-use borrow.Author.Tests.{eq-eqb, ne_eqb, eqb-true, eqb-false}
+use Rattle.std.proofs.Math.ListN.{length-map, get_or-map}
+use borrow.Author.Tests.{eqb-false}
 use Rattle.bitset.specs.Bits.{bit, has}
 use Rattle.bitset.proofs.Bools.{two}
 use Rattle.bitset.proofs.Laws.{bit-or, bit_one, bit_other, bit_empty, bit_le}
@@ -28,7 +20,7 @@ use Rattle.canonize.specs.Label.{label}
 use Rattle.canonize.proofs.Laws.{same_iff, sort_perm, sort_canonical, perm_of_sort}
 use Rattle.molecule.proofs.Perms.{Out, first, later, out_perm, perm_out, perm_cons}
 use Rattle.search.specs.Memo.{same_key}
-use Rattle.memoize.specs.Inner.Stored.{Block, label_at, labels, Picked, hash_sum}
+use Rattle.memoize.specs.Inner.Stored.{Block, label_at, labels, Hit, hash_sum}
 
 -- ---- equal keys
 
@@ -197,39 +189,16 @@ out_back o d = p_trans (p_cons refl d) (out_perm o)
 pub record Passed (f : ℕ → Bytes) (used : ℕ) (x : Bytes) (k : ℕ) : Type 0 where
   pub none : (i : ℕ) → i < k → bit used i ≡ 0 → f i ≢ x
 
-pub passed_start : {f : ℕ → Bytes} {used : ℕ} {x : Bytes} → Passed f used x 0
-passed_start = record { none = λ i h. absurd (omega arith) }
-
 module _ {f : ℕ → Bytes} {used : ℕ} {x : Bytes} {k : ℕ} (p : Passed f used x k) where
-  passed_next : (bit used k ≡ 0 → f k ≢ x) → Passed f used x (k + 1)
-  passed_next h = record { none = λ i l. go i l (ℕ_discrete i k) }
+  pub passed_differ : f k ≢ x → Passed f used x (k + 1)
+  passed_differ n = record { none = λ i l. go i l (ℕ_discrete i k) }
     where
       go : (i : ℕ) → i < k + 1 → Dec (i ≡ k) → bit used i ≡ 0 → f i ≢ x
-      go i l (yes e) = rw e h
-      go i l (no e) = p.none i (omega arith)
+      go i l (yes e) z = rw e n
+      go i l (no e) z = p.none i (omega arith) z
 
-  pub passed_used : has used k ≡ true → Passed f used x (k + 1)
-  passed_used e = passed_next (λ z. absurd (omega (arith, eqb-true (bit used k) 1 e)))
-
-  pub passed_differ : f k ≢ x → Passed f used x (k + 1)
-  passed_differ n = passed_next (λ z. n)
-
-module _ {f : ℕ → Bytes} {n used : ℕ} {x : Bytes} {k : ℕ} where
-  pub picked_hit : k < n → has used k ≡ false → f k ≡ x → Picked f n used x k
-  picked_hit l e h = record {
-    within = omega arith;
-    free = λ g. omega (arith, bit_le used k, eqb-false (bit used k) 1 e);
-    hit = λ g. h;
-    none = λ g. absurd (omega arith);
-  }
-
-  pub picked_none : n ≤ k → Passed f used x k → Picked f n used x n
-  picked_none l p = record {
-    within = omega arith;
-    free = λ g. absurd (omega arith);
-    hit = λ g. absurd (omega arith);
-    none = λ g j h. p.none j (omega arith);
-  }
+pub picked_hit : {f : ℕ → Bytes} {n used : ℕ} {x : Bytes} {k : ℕ} → k < n → has used k ≡ false → f k ≡ x → Hit f n used x k
+picked_hit {used = used} {k = k} l e h = record { within = l; free = omega (arith, bit_le used k, eqb-false (bit used k) 1 e); same = h }
 
 -- another hash, another label
 pub other_hash : {r : Bytes} {words : List ℕ} {base n : ℕ} → Block r words base n → (j x h : ℕ) → j < n → h ≡ hash (label r x)
@@ -288,15 +257,14 @@ module _ {r : Bytes} {words : List ℕ} {base : ℕ} {new : List ℕ} {n : ℕ} 
       record { within = omega arith; count = omega (arith, all_length its n); to = λ d. p_trans d (perm_sym p); from = λ d. p_trans d p }
 
   module _ {i used : ℕ} (w : Matching mine theirs its n i used) where
-    module _ (h : i < n) {k : ℕ} (p : Picked its n used (label r (get_or new i 0)) k) where
+    module _ (h : i < n) where
       next : drop i mine ≡ label r (get_or new i 0) ∷ drop (suc i) mine
       unfolding label_at
       next = labels_next r new 0 n (omega (arith, g.wide, g.few)) i h ∙ ap (λ (j : ℕ). label r (get_or new j 0) ∷ drop (suc i) mine) (zero-add i)
 
-      pub matching_next : k ≢ n → Matching mine theirs its n (i + 1) (bit_or used (2 ^ k))
-      matching_next d =
-          let l : k < n = omega (arith, p.within) in
-          let o = rw (p.hit l) at (use_one its used k n l (p.free l)) in
+      pub matching_next : {k : ℕ} → Hit its n used (label r (get_or new i 0)) k → Matching mine theirs its n (i + 1) (bit_or used (2 ^ k))
+      matching_next {k} p =
+          let o = rw p.same at (use_one its used k n p.within p.free) in
           record {
             within = omega arith;
             count = omega (arith, w.count, out_length o);
@@ -304,11 +272,11 @@ module _ {r : Bytes} {words : List ℕ} {base : ℕ} {new : List ℕ} {n : ℕ} 
             from = λ q. w.from (rw next (out_back o (rw (add-one i) at q)));
           }
 
-      pub matching_fails : k ≡ n → false ≡ same_key (sort mine) (sort theirs)
-      matching_fails e = perm_differ mine theirs (λ d.
+      pub matching_fails : ((j : ℕ) → j < n → bit used j ≡ 0 → its j ≢ label r (get_or new i 0)) → false ≡ same_key (sort mine) (sort theirs)
+      matching_fails p = perm_differ mine theirs (λ d.
           let (ys, o, q) = perm_cons (rw next at (w.to d)) in
           let (j, l, z, m) = out_is its (label r (get_or new i 0)) used n ys o in
-          p.none (omega arith) j l z m)
+          p j l z m)
 
     pub matching_done : n ≤ i → true ≡ same_key (sort mine) (sort theirs)
     matching_done h = perm_same (w.from (rw (drop_of_length-le mine m, z) p_nil))

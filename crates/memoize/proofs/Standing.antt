@@ -1,13 +1,8 @@
 -- The sets that stand for the pieces, written one at a time, and the entry that is then drafted. Assumes nothing.
-use mathlib.Core.Path.{◌≡◌, refl, sym, ap, ◌∙◌}
-use mathlib.Core.List.{List, ◌∷◌, map}
-use Prim.Native.Nat.{ℕ, suc, ◌+◌, ◌*◌, ◌^◌, ◌≤◌, ◌<◌}
-use native.Mathlib.Nat.{zero-add}
-use native.Mathlib.Numerals.{add-one}
+use Rattle.std.proofs.Common.{◌≡◌, refl, sym, ap, ◌∙◌, List, ◌∷◌, map, ℕ, suc, ◌+◌, ◌*◌, ◌^◌, ◌≤◌, ◌<◌, zero-add, add-one, arith, length, get_or, set, take, drop, drop_of_length-le, length-take-le, get_or-take, drop-cons, ext_get_or}
 use native.Mathlib.Decide.{ℕ_discrete}
-use native.Mathlib.Omega.{arith}
-use lib.ListN.{length, get_or, set, take, drop, length-set, length-map, drop_of_length-le, get_or-map}
-use lib.Seq.{length-take-le, get_or-take, get_or-set_same, get_or-set_other, drop-cons, ext_get_or}
+use Rattle.std.proofs.Math.ListN.{length-map, get_or-map}
+use Rattle.std.proofs.lemmas.Grind.{common_steps}
 use Rattle.molecule.specs.Lists.{Bytes}
 use Rattle.canonize.specs.Strings.{sort, hash}
 use Rattle.canonize.specs.Label.{label}
@@ -25,15 +20,6 @@ pub record Standing (r : Bytes) (pieces words : List ℕ) (total i : ℕ) : Type
   pub sum : total + hash_sum (drop i (map (label r) pieces)) ≡ hash_sum (map (label r) pieces)
   pub small : total ≤ i * 2 ^ 55
 
-pub standing_start : {r : Bytes} {pieces words : List ℕ} → Standing r pieces words 0 0
-standing_start = record {
-  within = omega arith;
-  stands = λ j h. absurd (omega arith);
-  hashes = λ j h. absurd (omega arith);
-  sum = omega arith;
-  small = omega arith;
-}
-
 module _ {r : Bytes} {pieces words : List ℕ} {total i : ℕ} (w : Standing r pieces words total i) where
   module _ (l : i < length pieces) (few : length pieces ≤ 32) (wide : 80 ≤ length words)
       {y h : ℕ} (e : h ≡ hash (label r (get_or pieces i 0))) (s : Stands r (get_or pieces i 0) y) where
@@ -50,22 +36,18 @@ module _ {r : Bytes} {pieces words : List ℕ} {total i : ℕ} (w : Standing r p
         ∙ ap (λ (z : Bytes). z ∷ drop (suc i) (map (label r) pieces)) (get_or-map (label r) pieces i 0)
 
     stands_of : (j : ℕ) → j < i + 1 → Dec (j ≡ i) → Stands r (get_or pieces j 0) (get_or two j 0)
-    stands_of j g (yes q) = rw (q, get_or-set_other one (32 + i) i h 0 (λ u. omega arith), get_or-set_same words i y 0 (omega arith)) s
-    stands_of j g (no q) = rw (get_or-set_other one (32 + i) j h 0 (λ u. omega arith), get_or-set_other words i j y 0 q) (w.stands j (omega arith))
+    stands_of j g (yes q) = let a : get_or two i 0 ≡ y = grind (arith, common_steps) in rw (q, a) s
+    stands_of j g (no q) = let a : get_or two j 0 ≡ get_or words j 0 = grind (arith, common_steps) in rw a (w.stands j (omega arith))
 
-    hash_of : (j : ℕ) → j < i + 1 → Dec (j ≡ i) → get_or two (32 + j) 0 ≡ hash (label r (get_or pieces j 0))
-    hash_of j g (yes q) = rw q (get_or-set_same one (32 + i) h 0 (omega (arith, length-set words i y)) ∙ e)
-    hash_of j g (no q) =
-        get_or-set_other one (32 + i) (32 + j) h 0 (λ u. q (omega arith))
-        ∙ get_or-set_other words i (32 + j) y 0 (λ u. omega arith)
-        ∙ w.hashes j (omega arith)
+    hash_of : (j : ℕ) → j < i + 1 → get_or two (32 + j) 0 ≡ hash (label r (get_or pieces j 0))
+    hash_of j g = grind (arith, common_steps, w.hashes j)
 
     pub standing_next : Standing r pieces two (total + h) (i + 1)
     unfolding hash_sum
     standing_next = record {
       within = omega arith;
       stands = λ j g. stands_of j g (ℕ_discrete j i);
-      hashes = λ j g. hash_of j g (ℕ_discrete j i);
+      hashes = hash_of;
       sum = rw add-one (omega (arith, w.sum, ap hash_sum next, e));
       small = omega (arith, w.small, hash_small (label r (get_or pieces i 0)), e);
     }
@@ -86,36 +68,23 @@ module _ (l : List ℕ) (n m index total : ℕ) where
   four_set = set (set (set (set l 64 n) 65 m) 66 index) 67 total
 
   four_length : length four_set ≡ length l
-  four_length = simp length-set
+  four_length = grind (arith, common_steps)
 
   four_other : (i : ℕ) → i < 64 → get_or four_set i 0 ≡ get_or l i 0
-  four_other i h =
-      get_or-set_other (set (set (set l 64 n) 65 m) 66 index) 67 i total 0 (λ q. omega arith)
-      ∙ get_or-set_other (set (set l 64 n) 65 m) 66 i index 0 (λ q. omega arith)
-      ∙ get_or-set_other (set l 64 n) 65 i m 0 (λ q. omega arith)
-      ∙ get_or-set_other l 64 i n 0 (λ q. omega arith)
+  four_other i h = grind (arith, common_steps)
 
   module _ (w : 80 ≤ length l) where
     four_count : get_or four_set 64 0 ≡ n
-    four_count =
-        get_or-set_other (set (set (set l 64 n) 65 m) 66 index) 67 64 total 0 (λ q. omega arith)
-        ∙ get_or-set_other (set (set l 64 n) 65 m) 66 64 index 0 (λ q. omega arith)
-        ∙ get_or-set_other (set l 64 n) 65 64 m 0 (λ q. omega arith)
-        ∙ get_or-set_same l 64 n 0 (omega arith)
+    four_count = grind (arith, common_steps)
 
     four_removed : get_or four_set 65 0 ≡ m
-    four_removed =
-        get_or-set_other (set (set (set l 64 n) 65 m) 66 index) 67 65 total 0 (λ q. omega arith)
-        ∙ get_or-set_other (set (set l 64 n) 65 m) 66 65 index 0 (λ q. omega arith)
-        ∙ get_or-set_same (set l 64 n) 65 m 0 (simp length-set (omega arith))
+    four_removed = grind (arith, common_steps)
 
     four_index : get_or four_set 66 0 ≡ index
-    four_index =
-        get_or-set_other (set (set (set l 64 n) 65 m) 66 index) 67 66 total 0 (λ q. omega arith)
-        ∙ get_or-set_same (set (set l 64 n) 65 m) 66 index 0 (simp length-set (omega arith))
+    four_index = grind (arith, common_steps)
 
     four_total : get_or four_set 67 0 ≡ total
-    four_total = get_or-set_same (set (set (set l 64 n) 65 m) 66 index) 67 total 0 (simp length-set (omega arith))
+    four_total = grind (arith, common_steps)
 
 module _ {r : Bytes} {pieces stood now : List ℕ} {total : ℕ} {removals : List ℕ} (index : ℕ)
     (w : Stood r pieces stood total) (f : Filled stood now (length pieces) (length removals) removals)

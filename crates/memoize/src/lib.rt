@@ -14,15 +14,11 @@ ghost use Rattle.memoize.specs.Inner.Stored.{Sized, removals_at, EntryWords, Sto
 
 use desk::Known;
 
-// Whether the state goes on, with the number of entries then; is stopped; or finds every entry used.
-#[derive(Clone, Copy)]
-pub enum Asked {
-    Goes(usize),
-    Stopped,
-    Full,
-}
+// Every entry of the memo is used.
+#[derive(Clone, Copy, Debug, PartialEq, Eq)]
+pub struct Full;
 
-// The first of the count pieces from word base on that is not used and has the label of x's set, whose hash is x's; count where there is none.
+// The first of the count pieces from word base on that is not used and has the label of x's set, whose hash is x's.
 fn pick(
     bytes: &[u8],
     at: &[u64; 65],
@@ -32,32 +28,28 @@ fn pick(
     used: u64,
     x: Known,
     slate: &mut [u8],
-) -> usize
+) -> Option<usize>
     requires { Writing bytes.now at.now slate.old × Block bytes.now memo.now base count
         × Own bytes.now x.set × Connected bytes.now x.set × (x.hash ≡ hash (label bytes.now x.set)) }
     ensures picked { Picked (label_at bytes.now memo.now base) count used (label bytes.now x.set) result }
     ensures slate { Slate slate.new }
 {
-    let mut next = 0;
-    while next < count {
-        let j = next;
-        next += 1;
+    for j in 0..count {
         if bitset::contains(used, j as u32) {
             continue;
         }
         let y = memo[base + j];
-        let g = memo[base + 32 + j];
         if y == x.set {
-            return j;
+            return Some(j);
         }
-        if g != x.hash {
+        if memo[base + 32 + j] != x.hash {
             continue;
         }
         if desk::equal_labels(bytes, at, x.set, y, slate) {
-            return j;
+            return Some(j);
         }
     }
-    count
+    None
 }
 
 // Whether the count pieces of the new entry have the same labels as those from word base on, each as often.
@@ -76,18 +68,15 @@ fn same_pieces(
     ensures slate { Slate slate.new }
 {
     let mut used = 0;
-    let mut i = 0;
-    while i < count {
+    for i in 0..count {
         let x = Known {
             hash: new[32 + i],
             set: new[i],
         };
-        let j = pick(bytes, at, memo, base, count, used, x, slate);
-        if j == count {
+        let Some(j) = pick(bytes, at, memo, base, count, used, x, slate) else {
             return false;
-        }
+        };
         used = bitset::insert(used, j as u32);
-        i += 1;
     }
     true
 }
@@ -125,7 +114,7 @@ fn is_key(
     same_pieces(bytes, at, memo, 80 * e, new, count as usize, slate)
 }
 
-// The entry with the key of the new entry, the number of entries where there is none.
+// The entry with the key of the new entry.
 fn locate(
     bytes: &[u8],
     at: &[u64; 65],
@@ -133,7 +122,7 @@ fn locate(
     entries: usize,
     new: &[u64],
     slate: &mut [u8],
-) -> usize
+) -> Option<usize>
     requires { Writing bytes.now at.now slate.old × ((m : List Entry) × Stored bytes.now memo.now entries m)
         × ((y : Entry) × EntryWords bytes.now new.now 0 y) }
     ensures located { (m : List Entry) (y : Entry) → Stored bytes.now memo.now entries m
@@ -142,39 +131,18 @@ fn locate(
 {
     let room = memo.len() / 80;
     if room == 0 {
-        return entries;
+        return None;
     }
     let mut k = memo[80 * bucket(new[67], room) + 69];
+    // A while: the entries of a bucket are a chain in the lent words, with 0 at its end.
     while k != 0 {
         let e = (k - 1) as usize;
         if is_key(bytes, at, memo, e, new, slate) {
-            return e;
+            return Some(e);
         }
         k = memo[80 * e + 68];
     }
-    entries
-}
-
-// Whether the list x comes after the list y.
-fn later(x: &[u64], y: &[u64]) -> bool
-    ensures { result ≡ not (lex_le x.now y.now) }
-{
-    let mut i = 0;
-    while i < x.len() {
-        if i == y.len() {
-            return true;
-        }
-        let a = x[i];
-        let b = y[i];
-        if a < b {
-            return false;
-        }
-        if b < a {
-            return true;
-        }
-        i += 1;
-    }
-    false
+    None
 }
 
 // Whether entry e gives way to the new entry: its index is larger, or its removals come later.
@@ -190,19 +158,15 @@ fn gives_way(memo: &[u64], e: usize, new: &[u64]) -> bool
     let b = a + memo[80 * e + 65] as usize;
     let m = new[64] as usize;
     let n = m + new[65] as usize;
-    later(&memo[a..b], &new[m..n])
+    memo[a..b] > new[m..n]
 }
 
-// The words from place k on become the first n of the list.
-fn copy(memo: &mut [u64], k: usize, list: &[u64], n: usize)
-    requires { (k + n ≤ length memo.old) × (n ≤ length list.now) }
-    ensures { Filled memo.old memo.new k n list.now }
+// Entry e gets the words of the new entry.
+fn overwrite(memo: &mut [u64], e: usize, new: &[u64])
+    requires { (80 * e + 68 ≤ length memo.old) × (68 ≤ length new.now) }
+    ensures { Filled memo.old memo.new (80 * e) 68 new.now }
 {
-    let mut i = 0;
-    while i < n {
-        memo[k + i] = list[i];
-        i += 1;
-    }
+    memo[80 * e..80 * e + 68].copy_from_slice(&new[..68]);
 }
 
 // The new entry becomes entry e, the last of its bucket.
@@ -212,12 +176,12 @@ fn store(memo: &mut [u64], e: usize, new: &[u64])
 {
     let h = bucket(new[67], memo.len() / 80);
     let last = memo[80 * h + 69];
-    copy(memo, 80 * e, new, 68);
+    overwrite(memo, e, new);
     memo[80 * e + 68] = last;
     memo[80 * h + 69] = e as u64 + 1;
 }
 
-// The memo's answer to a state with this new entry.
+// The memo's answer to a state with this new entry: how many entries it has then, where the state goes on, and none where it is stopped.
 fn answer(
     bytes: &[u8],
     at: &[u64; 65],
@@ -225,7 +189,7 @@ fn answer(
     entries: usize,
     new: &[u64],
     slate: &mut [u8],
-) -> Asked
+) -> Result<Option<usize>, Full>
     requires { Writing bytes.now at.now slate.old × ((m : List Entry) × Stored bytes.now memo.old entries m)
         × ((y : Entry) × EntryWords bytes.now new.now 0 y) }
     ensures answer { (m : List Entry) (y : Entry) → Stored bytes.now memo.old entries m
@@ -233,19 +197,18 @@ fn answer(
         → MemoAnswers bytes.now memo.old memo.new result (remember (length memo.old / 80) y m) }
     ensures slate { Slate slate.new }
 {
-    let e = locate(bytes, at, memo, entries, new, slate);
-    if e < entries {
-        if gives_way(memo, e, new) {
-            copy(memo, 80 * e, new, 68);
-            return Asked::Goes(entries);
+    if let Some(e) = locate(bytes, at, memo, entries, new, slate) {
+        if !gives_way(memo, e, new) {
+            return Ok(None);
         }
-        return Asked::Stopped;
+        overwrite(memo, e, new);
+        return Ok(Some(entries));
     }
     if entries < memo.len() / 80 {
         store(memo, entries, new);
-        return Asked::Goes(entries + 1);
+        return Ok(Some(entries + 1));
     }
-    Asked::Full
+    Err(Full)
 }
 
 // For each piece a set that stands for it and the hash of its label, in the new entry; the sum of the hashes.
@@ -264,22 +227,13 @@ fn stand_all(
     ensures slate { Slate slate.new }
 {
     let mut total = 0;
-    let mut i = 0;
-    while i < pieces.len() {
-        let known = desk::stands(bytes, at, pieces[i], desk, slate);
+    for (i, piece) in pieces.iter().enumerate() {
+        let known = desk::stands(bytes, at, *piece, desk, slate);
         new[i] = known.set;
         new[32 + i] = known.hash;
         total += known.hash;
-        i += 1;
     }
     total
-}
-
-// A removal as a word.
-fn wide(x: u32) -> u64
-    ensures { result ≡ x }
-{
-    x as u64
 }
 
 // The words from place k on become the removals.
@@ -287,10 +241,8 @@ fn put_removals(new: &mut [u64], k: usize, removals: &[u32])
     requires { k + length removals.now ≤ length new.old }
     ensures { Filled new.old new.new k (length removals.now) removals.now }
 {
-    let mut i = 0;
-    while i < removals.len() {
-        new[k + i] = wide(removals[i]);
-        i += 1;
+    for (i, removal) in removals.iter().enumerate() {
+        new[k + i] = u64::from(*removal);
     }
 }
 
@@ -316,11 +268,12 @@ fn draft(
     put_removals(new, pieces.len(), removals);
     new[64] = pieces.len() as u64;
     new[65] = removals.len() as u64;
-    new[66] = index as u64;
+    new[66] = u64::from(index);
     new[67] = total;
 }
 
-// A state with these pieces, index and removals asks the memo, which has so many entries.
+// A state with these pieces, index and removals asks the memo, which has so many entries: how many it has then, where the state goes on, and none
+// where it is stopped.
 pub fn ask(
     bytes: &[u8],
     at: &[u64; 65],
@@ -331,7 +284,7 @@ pub fn ask(
     removals: &[u32],
     desk: &mut [u64],
     slate: &mut [u8],
-) -> Asked
+) -> Result<Option<usize>, Full>
     requires { Lent bytes.now at.now desk.old slate.old
         × ((m : List Entry) × Stored bytes.now memo.old entries m) × Fragments bytes.now pieces.now
         × (length pieces.now + length removals.now ≤ 32) }

@@ -1,14 +1,7 @@
 -- The search's definition one turn at a time: where entering a state leads, and what is found after each child. Assumes nothing, but where a state is entered that the record is accepted.
-use mathlib.Core.Path.{◌≡◌, refl, sym, ap, subst, ◌∙◌}
-use mathlib.Core.Logic.{◌⊎◌, inl, inr, ◌≢◌}
-use mathlib.Core.Bool.{Bool, true, false, ◌||◌}
+use Rattle.std.proofs.Common.{Option, Result, Ok, Err, ◌≡◌, refl, sym, ap, subst, ◌∙◌, ◌⊎◌, inl, inr, ◌≢◌, Bool, true, false, ◌||◌, List, [], ◌∷◌, ℕ, zero, suc, ◌+◌, ◌-◌, ◌≤◌, ◌<◌, min, arith, ltb, leb, eqb, length, get_or, take, lt-ltb, le-ltb, eq-eqb, ne_eqb}
 use mathlib.Core.List.Memᴰ.{eq_of_singleton as mem_one}
-use mathlib.Core.List.{List, [], ◌∷◌, Memᴰ as Mem}
-use Prim.Native.Nat.{ℕ, zero, suc, ◌+◌, ◌-◌, ◌≤◌, ◌<◌, min}
-use native.Mathlib.Omega.{arith}
-use lib.Dec.{ltb, leb, eqb}
-use lib.ListN.{length, get_or, take}
-use borrow.Author.Tests.{lt-ltb, le-ltb, eq-eqb, ne_eqb}
+use mathlib.Core.List.{Memᴰ as Mem}
 use Rattle.bitset.specs.Bits.{size}
 use Rattle.bitset.proofs.Bools.{two}
 use Rattle.bitset.proofs.Laws.{size_first}
@@ -33,15 +26,17 @@ use Rattle.search.proofs.Ends.{root_fine}
 use Rattle.molecule.proofs.Whole.{all_connected}
 use Rattle.state.specs.declared.State as code
 use Rattle.recurse.specs.declared.visit.Run as code_run
-use Rattle.recurse.specs.declared.visit.Outcome as code_outcome
 use Rattle.recurse.specs.declared.visit.Gate.{Gate}
-use Rattle.recurse.specs.declared.visit.Gate.TheVariants.{Goes as Opens, Stops, Ends}
-use Rattle.memoize.specs.declared.Asked.{Asked}
+use Rattle.recurse.specs.declared.visit.Gate.TheVariants.{Goes as Opens, Stops}
+use Rattle.recurse.specs.declared.visit.Found.{Found}
+use Rattle.recurse.specs.declared.visit.Halt.{Halt}
+use Rattle.recurse.specs.declared.visit.Halt.TheVariants.{Budget, Memo as MemoFull}
+use Rattle.memoize.specs.declared.Full.{Full}
 use Rattle.state.specs.Inner.Views.{state_of}
 use Rattle.desk.specs.Inner.Cached.{Cached}
 use Rattle.memoize.specs.Inner.Stored.{Fragments, Stored, entry_with, MemoAnswers}
 use Rattle.branch.specs.Inner.Entered.{Entered}
-use Rattle.recurse.specs.Inner.Follows.{run_of, Follows, Visited, Searches, Counted, Opened, Stopped as StoppedState, Ended, gate_of, Gated, OwnAnswer, OutcomeAtOnce, better_of, Lowered}
+use Rattle.recurse.specs.Inner.Follows.{run_of, halted_as, Answered, Follows, Visited, Searches, Counted, Opened, Stopped as StoppedState, Ended, gate_of, Gated, OwnAnswer, better_of, Lowered}
 use Rattle.branch.specs.Inner.Branching.{tried_from, Turn, Next, Chooses, Below}
 use Rattle.branch.proofs.Branching.{pieces_own, next_take, next_end, below_falls}
 
@@ -100,8 +95,8 @@ run_counted k m n = rw (k.best, k.states)
 
 -- where entering a state of the code leads
 module _ (r : Bytes) (setting : Setting) (room : ℕ) (s : code.State) (run : code_run.Run) (m : List Entry) where
-  pub ends_spent : setting.budget ≤ run.states → Ended r setting room s run m 11 setting.budget
-  ends_spent h = record { some = λ e. omega arith; ends = visit_spent r (pairs r) setting room (state_of s) (run_of run m) h }
+  pub ends_spent : setting.budget ≤ run.states → Ended r setting room s run m (Budget setting.budget)
+  ends_spent h = record { ends = visit_spent r (pairs r) setting room (state_of s) (run_of run m) h }
 
   module _ (low : run.states < setting.budget) (next : code_run.Run) (k : Counted run next) where
     -- the definition's state, counted
@@ -127,7 +122,7 @@ module _ (r : Bytes) (setting : Setting) (room : ℕ) (s : code.State) (run : co
 
       module _ (old now : List ℕ) (st : Stored r old next.entries m) where
         -- by the definition's answer of the memo
-        gated_by : (a : Asked) (o : Memo) → ask r (pairs r) setting room (state_of s) m ≡ o → MemoAnswers r old now a o → Gated r setting room s run m now (gate_of a next)
+        gated_by : (a : Result (Option ℕ) Full) (o : Memo) → ask r (pairs r) setting room (state_of s) m ≡ o → MemoAnswers r old now a o → Gated r setting room s run m now (gate_of a next)
         gated_by a (goes n) q h = rw h.1 (record {
           counted = record { best = k.best; states = k.states };
           memo = n;
@@ -139,9 +134,9 @@ module _ (r : Bytes) (setting : Setting) (room : ℕ) (s : code.State) (run : co
           stored = rw h.1 st;
           stops = λ f. entered f ∙ memo_stopped r (pairs r) setting room (state_of s) (run_of next m) _ (int_at on) q;
         })
-        gated_by a full q h = rw h.0 (record { some = λ z. omega arith; ends = λ f. entered f ∙ memo_full r (pairs r) setting room (state_of s) (run_of next m) _ (int_at on) q })
+        gated_by a full q h = rw h.0 (record { ends = λ f. entered f ∙ memo_full r (pairs r) setting room (state_of s) (run_of next m) _ (int_at on) q })
 
-        pub gated_memo : setting.memo ≡ 1 → (a : Asked) (pieces removals : List ℕ) → pieces ≡ (state_of s).pieces → removals ≡ (state_of s).removals
+        pub gated_memo : setting.memo ≡ 1 → (a : Result (Option ℕ) Full) (pieces removals : List ℕ) → pieces ≡ (state_of s).pieces → removals ≡ (state_of s).removals
             → MemoAnswers r old now a (remember room (entry_with r pieces s.index removals) m) → Gated r setting room s run m now (gate_of a next)
         gated_memo memo a pieces removals p q h =
             gated_by a _ (ask_on r (pairs r) setting room (state_of s) (run_of run m) m (eq-eqb setting.memo 1 memo)) (rw (← p, ← q) h)
@@ -156,42 +151,23 @@ fragments_of r s ok E = record {
 -- ---- the loop over the removals
 
 -- the children by the removals from number m on, with what is found so far
-abbrev pub whole_of : Bytes → Setting → ℕ → ℕ → code.State → ℕ → ℕ → code_outcome.Outcome → List Entry → Outcome
+abbrev pub whole_of : Bytes → Setting → ℕ → ℕ → code.State → ℕ → ℕ → Found → List Entry → Outcome
 whole_of r setting room f s least m found memo =
     children r (pairs r) setting room (visit r (pairs r) setting room f) (state_of s) (held_of r (pairs r) (state_of s)) (tried_from r (pairs r) (state_of s).pieces least m)
-    found.answer (take found.length found.trail) (run_of found.run memo)
+    found.index (take found.length found.trail) (run_of found.run memo)
 
 -- they give the whole, with the memo that the words store
-pub record Looping (r : Bytes) (setting : Setting) (room f : ℕ) (s : code.State) (least m : ℕ) (found : code_outcome.Outcome) (words : List ℕ) (whole : Outcome) : Type 0 where
+pub record Looping (r : Bytes) (setting : Setting) (room f : ℕ) (s : code.State) (least m : ℕ) (found : Found) (words : List ℕ) (whole : Outcome) : Type 0 where
   pub memo : List Entry
   pub stored : Stored r words found.run.entries memo
   pub same : whole ≡ whole_of r setting room f s least m found memo
 
--- an answer of the code as the definition's
-abbrev AnsweredAs : Bytes → ℕ → code_outcome.Outcome → List ℕ → Outcome → Type 0
-AnsweredAs r best g words o = (m : List Entry) × (o ≡ answers g.answer (take g.length g.trail) (run_of g.run m)) × (g.length ≤ 32) × (g.run.best ≤ best) × Stored r words g.run.entries m
-
-module _ (r : Bytes) (best : ℕ) (g : code_outcome.Outcome) (words : List ℕ) where
-  -- an outcome on a row
-  follows_halts : (o : Outcome) → Follows r best g words o → g.row ≢ 0 → o ≡ halts g.row g.place
-  follows_halts (answers a t run) h n = absurd (n h.0)
-  follows_halts (halts k q) h n = let a : k ≡ g.row = sym h.1 in let b : q ≡ g.place = sym h.2 in rw (a, b)
-
-  -- an answer
-  follows_answers : (o : Outcome) → Follows r best g words o → g.row ≡ 0 → AnsweredAs r best g words o
-  follows_answers (answers a t run) h e =
-      let p : a ≡ g.answer = sym h.1 in
-      let q : t ≡ take g.length g.trail = sym h.3 in
-      let b : run.best ≡ g.run.best = sym h.4 in
-      let n : run.states ≡ g.run.states = sym h.6 in
-      (run.memo, rw (p, q, ← b, ← n), h.2, h.5, h.7)
-  follows_answers (halts k q) h e = absurd (h.0 e)
-
 -- one turn of the children
 module _ (r : Bytes) (ms : List Pair) (setting : Setting) (room : ℕ) (enter : State → Run → Outcome) (s : State) (held : List ℕ) (m : ℕ) (ns : List ℕ) (answer : ℕ) (trail : List ℕ) (run : Run) where
-  turn_halts : (n p : ℕ) → enter (child r ms s held m) run ≡ halts n p → children r ms setting room enter s held (m ∷ ns) answer trail run ≡ halts n p
+  turn_halts : (h : Halt) → enter (child r ms s held m) run ≡ halted_as h → children r ms setting room enter s held (m ∷ ns) answer trail run ≡ halted_as h
   unfolding children
-  turn_halts n p q = rw (q, children)
+  turn_halts (Budget n) q = rw (q, children)
+  turn_halts (MemoFull n) q = rw (q, children)
 
   turn_less : (a : ℕ) (t : List ℕ) (run' : Run) → enter (child r ms s held m) run ≡ answers a t run' → ltb a answer ≡ true
       → children r ms setting room enter s held (m ∷ ns) answer trail run ≡ children r ms setting room enter s held ns a t run'
@@ -209,9 +185,9 @@ unfolding children
 children_none r ms setting room enter s held ns answer trail run e = rw e
 
 -- match m is taken, to state c, which is entered with what is found so far and has the outcome g
-module _ (r : Bytes) (ok : check r ≡ accepted) (setting : Setting) (room f : ℕ) (s : code.State) (E : Entered r s) (least m : ℕ) (found : code_outcome.Outcome) (words : List ℕ) (whole : Outcome)
+module _ (r : Bytes) (ok : check r ≡ accepted) (setting : Setting) (room f : ℕ) (s : code.State) (E : Entered r s) (least m : ℕ) (found : Found) (words : List ℕ) (whole : Outcome)
     (L : Looping r setting room f s least m found words whole) (enough : sum_of size (state_of s).pieces ≤ suc f) (T : Turn (pairs r) (state_of s).pieces least m) (held : List ℕ) (C : Chooses r s held m)
-    (c : code.State) (B : Below r s m c) (g : code_outcome.Outcome) (now : List ℕ)
+    (c : code.State) (B : Below r s m c) (g : Result Found Halt) (now : List ℕ)
     (W : (n : List Entry) → Stored r words found.run.entries n → Visited r setting room c found.run n g now) where
   -- the child of the definition, entered one level down
   abbrev below : Outcome
@@ -228,60 +204,61 @@ module _ (r : Bytes) (ok : check r ≡ accepted) (setting : Setting) (room f : �
   rest = tried_from r (pairs r) (state_of s).pieces least (m + 1)
 
   whole_is : whole ≡ children r (pairs r) setting room (visit r (pairs r) setting room f) (state_of s) (held_of r (pairs r) (state_of s)) (m ∷ rest)
-      found.answer (take found.length found.trail) (run_of found.run L.memo)
+      found.index (take found.length found.trail) (run_of found.run L.memo)
   whole_is =
       L.same
       ∙ ap (λ (ns : List ℕ). children r (pairs r) setting room (visit r (pairs r) setting room f) (state_of s) (held_of r (pairs r) (state_of s)) ns
-      found.answer (take found.length found.trail) (run_of found.run L.memo))
+      found.index (take found.length found.trail) (run_of found.run L.memo))
       (next_take r (pairs r) (table_laws r ok) (state_of s).pieces least m C.within T)
 
-  pub loop_halts : g.row ≢ 0 → whole ≡ halts g.row g.place
-  loop_halts n = whole_is ∙ turn_halts r (pairs r) setting room _ (state_of s) _ m rest _ _ _ g.row g.place (follows_halts r found.run.best g now _ taken n)
+  pub loop_halts : (h : Halt) → g ≡ Err h → whole ≡ halted_as h
+  loop_halts h e =
+      let w : Follows r found.run.best (Err h) now below = rw e at taken in
+      whole_is ∙ turn_halts r (pairs r) setting room _ (state_of s) _ m rest _ _ _ h w
 
-  pub loop_answers : g.row ≡ 0 → (k : ℕ) → Next r (pairs r) (state_of s).pieces least (m + 1) k → Looping r setting room f s least k (better_of found g) now whole
-  loop_answers e k N = go (two (ltb g.answer found.answer))
+  pub loop_answers : (o : Found) → g ≡ Ok o → (k : ℕ) → Next r (pairs r) (state_of s).pieces least (m + 1) k → Looping r setting room f s least k (better_of found o) now whole
+  loop_answers o e k N = go (two (ltb o.index found.index))
     where
-      w : AnsweredAs r found.run.best g now below
-      w = follows_answers r found.run.best g now _ taken e
+      w : Answered r found.run.best o now below
+      w = rw e at taken
 
-      on : (o : code_outcome.Outcome) → Stored r now o.run.entries w.0 → whole ≡ whole_of r setting room f s least (m + 1) o w.0 → Looping r setting room f s least k o now whole
-      on o st q = record {
-        memo = w.0;
+      on : (x : Found) → Stored r now x.run.entries w.memo → whole ≡ whole_of r setting room f s least (m + 1) x w.memo → Looping r setting room f s least k x now whole
+      on x st q = record {
+        memo = w.memo;
         stored = st;
         same = q ∙ ap (λ (ns : List ℕ). children r (pairs r) setting room (visit r (pairs r) setting room f) (state_of s) (held_of r (pairs r) (state_of s)) ns
-            o.answer (take o.length o.trail) (run_of o.run w.0)) N.same;
+            x.index (take x.length x.trail) (run_of x.run w.memo)) N.same;
       }
 
-      go : (ltb g.answer found.answer ≡ true) ⊎ (ltb g.answer found.answer ≡ false) → Looping r setting room f s least k (better_of found g) now whole
-      go (inl l) = rw l (on g w.4 (whole_is ∙ turn_less r (pairs r) setting room _ (state_of s) _ m rest _ _ _ g.answer _ _ w.1 l))
-      go (inr l) = rw l (on _ w.4 (whole_is ∙ turn_more r (pairs r) setting room _ (state_of s) _ m rest _ _ _ g.answer _ _ w.1 l))
+      go : (ltb o.index found.index ≡ true) ⊎ (ltb o.index found.index ≡ false) → Looping r setting room f s least k (better_of found o) now whole
+      go (inl l) = rw l (on o w.stored (whole_is ∙ turn_less r (pairs r) setting room _ (state_of s) _ m rest _ _ _ o.index _ _ w.is l))
+      go (inr l) = rw l (on _ w.stored (whole_is ∙ turn_more r (pairs r) setting room _ (state_of s) _ m rest _ _ _ o.index _ _ w.is l))
 
 -- what is found after an answer
-found_next : (r : Bytes) (setting : Setting) (room : ℕ) (c : code.State) (found g : code_outcome.Outcome) (words now : List ℕ)
-    → ((n : List Entry) → Stored r words found.run.entries n → Visited r setting room c found.run n g now)
-    → (n : List Entry) → Stored r words found.run.entries n → g.row ≡ 0 → found.row ≡ 0 → found.length ≤ 32
-    → ((better_of found g).row ≡ 0) × ((better_of found g).length ≤ 32) × ((better_of found g).run.best ≤ found.run.best) × ((n : List Entry) × Stored r now (better_of found g).run.entries n)
-found_next r setting room c found g words now W n st e z l = go (two (ltb g.answer found.answer))
+found_next : (r : Bytes) (setting : Setting) (room : ℕ) (c : code.State) (found o : Found) (words now : List ℕ)
+    → ((n : List Entry) → Stored r words found.run.entries n → Visited r setting room c found.run n (Ok o) now)
+    → (n : List Entry) → Stored r words found.run.entries n → found.length ≤ 32
+    → ((better_of found o).length ≤ 32) × ((better_of found o).run.best ≤ found.run.best) × ((n : List Entry) × Stored r now (better_of found o).run.entries n)
+found_next r setting room c found o words now W n st l = go (two (ltb o.index found.index))
   where
     f : ℕ
     f = suc (sum_of size (state_of c).pieces)
 
-    w : AnsweredAs r found.run.best g now (visit r (pairs r) setting room f (state_of c) (run_of found.run n))
-    w = follows_answers r found.run.best g now _ (W n st f (omega arith) (omega arith)) e
+    w : Answered r found.run.best o now (visit r (pairs r) setting room f (state_of c) (run_of found.run n))
+    w = W n st f (omega arith) (omega arith)
 
-    go : (ltb g.answer found.answer ≡ true) ⊎ (ltb g.answer found.answer ≡ false)
-        → ((better_of found g).row ≡ 0) × ((better_of found g).length ≤ 32) × ((better_of found g).run.best ≤ found.run.best) × ((n : List Entry) × Stored r now (better_of found g).run.entries n)
-    go (inl q) = rw q (e, w.2, w.3, (w.0, w.4))
-    go (inr q) = rw q (z, l, w.3, (w.0, w.4))
+    go : (ltb o.index found.index ≡ true) ⊎ (ltb o.index found.index ≡ false)
+        → ((better_of found o).length ≤ 32) × ((better_of found o).run.best ≤ found.run.best) × ((n : List Entry) × Stored r now (better_of found o).run.entries n)
+    go (inl q) = rw q (w.short, w.low, (w.memo, w.stored))
+    go (inr q) = rw q (l, w.low, (w.memo, w.stored))
 
 -- ---- what the loop keeps
 
 -- with ₀ as at its start: the next match to try is m, and the loop gives the whole, in a memo with as much room
-pub record Kept (r : Bytes) (setting : Setting) (s : code.State) (least first : ℕ) (found₀ : code_outcome.Outcome) (memo₀ desk₀ slate₀ : List ℕ)
-    (m : ℕ) (found : code_outcome.Outcome) (memo desk slate : List ℕ) : Type 0 where
+pub record Kept (r : Bytes) (setting : Setting) (s : code.State) (least first : ℕ) (found₀ : Found) (memo₀ desk₀ slate₀ : List ℕ)
+    (m : ℕ) (found : Found) (memo desk slate : List ℕ) : Type 0 where
   pub turn : Turn (pairs r) (state_of s).pieces least m
   pub after : first ≤ m
-  pub row : found.row ≡ 0
   pub short : found.length ≤ 32
   pub low : found.run.best ≤ found₀.run.best
   pub memos : length memo ≡ length memo₀
@@ -294,17 +271,16 @@ pub record Kept (r : Bytes) (setting : Setting) (s : code.State) (least first : 
       → Looping r setting room f s least m found memo (whole_of r setting room f s least first found₀ n)
 
 -- what the outcome carries is stored
-pub own_stored : {s : code.State} {run : code_run.Run} {o : code_outcome.Outcome} → OwnAnswer s run o → {r : Bytes} {words : List ℕ} {n : List Entry} → Stored r words run.entries n → Stored r words o.run.entries n
+pub own_stored : {s : code.State} {run : code_run.Run} {o : Found} → OwnAnswer s run o → {r : Bytes} {words : List ℕ} {n : List Entry} → Stored r words run.entries n → Stored r words o.run.entries n
 own_stored w {r} {words} {n} st = subst (λ (x : code_run.Run). Stored r words x.entries n) (sym w.carried) st
 
 -- it starts with the state's own answer
-pub kept_start : {r : Bytes} {setting : Setting} {s : code.State} {run : code_run.Run} {least first m : ℕ} {found : code_outcome.Outcome} {memo desk slate : List ℕ}
+pub kept_start : {r : Bytes} {setting : Setting} {s : code.State} {run : code_run.Run} {least first m : ℕ} {found : Found} {memo desk slate : List ℕ}
     → OwnAnswer s run found → Entered r s → Next r (pairs r) (state_of s).pieces least first m → Cached r desk × Slate slate → (n : List Entry) × Stored r memo run.entries n
     → Kept r setting s least first found memo desk slate m found memo desk slate
 kept_start {r} {setting} {s} {run} {least = least} {found = found} {memo} w E N d st = record {
   turn = N.turn;
   after = N.after;
-  row = w.row;
   short = omega (arith, w.length, E.removals);
   low = omega arith;
   memos = refl;
@@ -317,56 +293,56 @@ kept_start {r} {setting} {s} {run} {least = least} {found = found} {memo} w E N 
     memo = n;
     stored = z;
     same = ap (λ (ns : List ℕ). children r (pairs r) setting room (visit r (pairs r) setting room f) (state_of s) (held_of r (pairs r) (state_of s)) ns
-        found.answer (take found.length found.trail) (run_of found.run n)) N.same;
+        found.index (take found.length found.trail) (run_of found.run n)) N.same;
   };
 }
 
-module _ {r : Bytes} {setting : Setting} {s : code.State} {least first : ℕ} {found₀ : code_outcome.Outcome} {memo₀ desk₀ slate₀ : List ℕ} {m : ℕ} {found : code_outcome.Outcome} {memo desk slate : List ℕ}
+module _ {r : Bytes} {setting : Setting} {s : code.State} {least first : ℕ} {found₀ : Found} {memo₀ desk₀ slate₀ : List ℕ} {m : ℕ} {found : Found} {memo desk slate : List ℕ}
     (K : Kept r setting s least first found₀ memo₀ desk₀ slate₀ m found memo desk slate) (ok : check r ≡ accepted) where
   -- nothing is left to try
   pub kept_done : m ≡ length (pairs r) → (room : ℕ) → room ≡ memo_room (length memo₀) → (n : List Entry) → Stored r memo₀ found₀.run.entries n → (f : ℕ) → sum_of size (state_of s).pieces ≤ suc f
-      → (k : List Entry) × Stored r memo found.run.entries k × (whole_of r setting room f s least first found₀ n ≡ answers found.answer (take found.length found.trail) (run_of found.run k))
+      → (k : List Entry) × Stored r memo found.run.entries k × (whole_of r setting room f s least first found₀ n ≡ answers found.index (take found.length found.trail) (run_of found.run k))
   kept_done e room q n st f h =
       let L = K.loops room q n st f h in
       (L.memo, L.stored, L.same ∙ children_none r (pairs r) setting room _ (state_of s) _ _ _ _ _ (next_end r (pairs r) (table_laws r ok) (state_of s).pieces least m e))
 
-  module _ (E : Entered r s) (held : List ℕ) (C : Chooses r s held m) (c : code.State) (B : Below r s m c) (g : code_outcome.Outcome) (memo' : List ℕ)
+  module _ (E : Entered r s) (held : List ℕ) (C : Chooses r s held m) (c : code.State) (B : Below r s m c) (g : Result Found Halt) (memo' : List ℕ)
       (W : (n : List Entry) → Stored r memo found.run.entries n → Visited r setting (memo_room (length memo)) c found.run n g memo') where
     roomy : (room : ℕ) → room ≡ memo_room (length memo₀) → (n : List Entry) → Stored r memo found.run.entries n → Visited r setting room c found.run n g memo'
     roomy room q = subst (λ (x : ℕ). (n : List Entry) → Stored r memo found.run.entries n → Visited r setting x c found.run n g memo') (ap memo_room K.memos ∙ sym q) W
 
     -- the child ends the search
-    pub kept_halts : g.row ≢ 0 → (room : ℕ) → room ≡ memo_room (length memo₀) → (n : List Entry) → Stored r memo₀ found₀.run.entries n → (f : ℕ) → sum_of size (state_of s).pieces ≤ suc f
-        → whole_of r setting room f s least first found₀ n ≡ halts g.row g.place
-    kept_halts z room q n st f h = loop_halts r ok setting room f s E least m found memo _ (K.loops room q n st f h) h K.turn held C c B g memo' (roomy room q) z
+    pub kept_halts : (h : Halt) → g ≡ Err h → (room : ℕ) → room ≡ memo_room (length memo₀) → (n : List Entry) → Stored r memo₀ found₀.run.entries n → (f : ℕ) → sum_of size (state_of s).pieces ≤ suc f
+        → whole_of r setting room f s least first found₀ n ≡ halted_as h
+    kept_halts e z room q n st f h = loop_halts r ok setting room f s E least m found memo _ (K.loops room q n st f h) h K.turn held C c B g memo' (roomy room q) e z
 
     -- the child answers, and k is the next to try
-    pub kept_next : g.row ≡ 0 → (k : ℕ) → Next r (pairs r) (state_of s).pieces least (m + 1) k → (o : code_outcome.Outcome) → o ≡ better_of found g
+    pub kept_next : (x : Found) → g ≡ Ok x → (k : ℕ) → Next r (pairs r) (state_of s).pieces least (m + 1) k → (o : Found) → o ≡ better_of found x
         → (desk' slate' : List ℕ) → Cached r desk' × Slate slate' → length memo' ≡ length memo → length desk' ≡ length desk → length slate' ≡ length slate
         → Kept r setting s least first found₀ memo₀ desk₀ slate₀ k o memo' desk' slate'
-    kept_next z k N o e desk' slate' w l1 l2 l3 =
-        let x = found_next r setting (memo_room (length memo)) c found g memo memo' W K.stored.0 K.stored.1 z K.row K.short in
-        subst (λ (y : code_outcome.Outcome). Kept r setting s least first found₀ memo₀ desk₀ slate₀ k y memo' desk' slate') (sym e)
+    kept_next y z k N o e desk' slate' w l1 l2 l3 =
+        let x = found_next r setting (memo_room (length memo)) c found y memo memo' (rw z at W) K.stored.0 K.stored.1 K.short in
+        subst (λ (y : Found). Kept r setting s least first found₀ memo₀ desk₀ slate₀ k y memo' desk' slate') (sym e)
         (record {
           turn = N.turn;
           after = omega (arith, N.after, K.after);
-          row = x.0;
-          short = x.1;
-          low = omega (arith, x.2, K.low);
+          short = x.0;
+          low = omega (arith, x.1, K.low);
           memos = l1 ∙ K.memos;
           desks = l2 ∙ K.desks;
           slates = l3 ∙ K.slates;
           cached = w.0;
           serves = w.1;
-          stored = x.3;
-          loops = λ room q n st f h. loop_answers r ok setting room f s E least m found memo _ (K.loops room q n st f h) h K.turn held C c B g memo' (roomy room q) z k N;
+          stored = x.2;
+          loops = λ room q n st f h. loop_answers r ok setting room f s E least m found memo _ (K.loops room q n st f h) h K.turn held C c B g memo' (roomy room q) y z k N;
         })
 
 -- ---- a state's outcome
 
-lower_halts : (o : Outcome) (n p : ℕ) → o ≡ halts n p → lower o ≡ halts n p
+lower_halts : (o : Outcome) (h : Halt) → o ≡ halted_as h → lower o ≡ halted_as h
 unfolding lower
-lower_halts o n p e = rw e
+lower_halts o (Budget n) e = rw e
+lower_halts o (MemoFull n) e = rw e
 
 lower_answers : (o : Outcome) (a : ℕ) (t : List ℕ) (run : Run) → o ≡ answers a t run → lower o ≡ answers a t (record { best = min run.best a; states = run.states; memo = run.memo })
 unfolding lower
@@ -374,30 +350,28 @@ lower_answers o a t run e = rw e
 
 module _ (r : Bytes) (setting : Setting) (room : ℕ) (s : code.State) (run : code_run.Run) (m : List Entry) (words : List ℕ) where
   -- the outcome is that of the definition where that is so at every depth but 0
-  visited_by : (o : code_outcome.Outcome) (d : ℕ → Outcome)
+  visited_by : (o : Result Found Halt) (d : ℕ → Outcome)
       → ((f : ℕ) → visit r (pairs r) setting room (suc f) (state_of s) (run_of run m) ≡ d f) → ((f : ℕ) → sum_of size (state_of s).pieces ≤ suc f → Follows r run.best o words (d f))
       → Visited r setting room s run m o words
   visited_by o d e h zero a b = absurd (omega arith)
   visited_by o d e h (suc f) a b = subst (λ (x : Outcome). Follows r run.best o words x) (sym (e f)) (h f a)
 
-  -- a state that does not go on
-  pub visited_shut : (g : Gate) (o : code_outcome.Outcome) → Gated r setting room s run m words g → OutcomeAtOnce s o g → s.removed ≤ 32 → ((next : code_run.Run) → g ≢ Opens next) → Visited r setting room s run m o words
-  visited_shut (Opens next) o D e l h = absurd (h next refl)
-  visited_shut (Ends n p) o D e l h = visited_by o (λ f. halts n p) D.ends (λ f q. (λ z. D.some (sym e.0 ∙ z), e.0, e.1))
-  visited_shut (Stops next) o D e l h =
-      let b : o.run.best ≡ run.best = ap (λ (x : code_run.Run). x.best) e.carried ∙ D.counted.best in
-      visited_by o (λ f. answers s.index (state_of s).removals (run_of next m)) D.stops (λ f q. (
-        e.row,
-        e.answer,
-        omega (arith, e.length),
-        rw (e.length, e.trail),
-        ap (λ (x : code_run.Run). x.best) e.carried,
-        omega (arith, b),
-        ap (λ (x : code_run.Run). x.states) e.carried,
-        own_stored e D.stored,
-      ))
+  -- a state that ends the search
+  pub visited_ended : (h : Halt) → Ended r setting room s run m h → Visited r setting room s run m (Err h) words
+  visited_ended h D = visited_by (Err h) (λ f. halted_as h) D.ends (λ f q. refl)
 
-  module _ (next : code_run.Run) (least first : ℕ) (D : Opened r setting room s run m words next) (found : code_outcome.Outcome) (e : OwnAnswer s next found)
+  -- a state that is stopped
+  pub visited_stopped : (next : code_run.Run) (o : Found) → StoppedState r setting room s run m words next → OwnAnswer s next o → s.removed ≤ 32
+      → Visited r setting room s run m (Ok o) words
+  visited_stopped next o D e l = visited_by (Ok o) (λ f. answers s.index (state_of s).removals (run_of next m)) D.stops (λ f q. record {
+    memo = m;
+    is = rw (e.index, e.length, e.trail, e.carried);
+    short = omega (arith, e.length);
+    low = omega (arith, ap (λ (x : code_run.Run). x.best) e.carried, D.counted.best);
+    stored = own_stored e D.stored;
+  })
+
+  module _ (next : code_run.Run) (least first : ℕ) (D : Opened r setting room s run m words next) (found : Found) (e : OwnAnswer s next found)
       (tries : tried r (pairs r) setting room (state_of s) (removable r (pairs r) (state_of s).pieces s.next) next.best ≡ tried_from r (pairs r) (state_of s).pieces least first) where
     -- the state's outcome, by the whole of the loop
     opened_is : (f : ℕ) → visit r (pairs r) setting room (suc f) (state_of s) (run_of run m) ≡ lower (whole_of r setting room f s least first found D.memo)
@@ -406,32 +380,36 @@ module _ (r : Bytes) (setting : Setting) (room : ℕ) (s : code.State) (run : co
         D.goes f
         ∙ ap (λ (ns : List ℕ). lower (children r (pairs r) setting room (visit r (pairs r) setting room f) (state_of s) (held_of r (pairs r) (state_of s)) ns
         s.index (state_of s).removals (run_of next D.memo))) tries
-        ∙ rw (e.answer, e.length, e.trail, e.carried)
+        ∙ rw (e.index, e.length, e.trail, e.carried)
 
-    pub visited_halts : (o : code_outcome.Outcome) → o.row ≢ 0 → ((f : ℕ) → sum_of size (state_of s).pieces ≤ suc f → whole_of r setting room f s least first found D.memo ≡ halts o.row o.place) → (now : List ℕ)
-        → Visited r setting room s run m o now
-    visited_halts o n h now zero a b = absurd (omega arith)
-    visited_halts o n h now (suc f) a b = subst (λ (x : Outcome). Follows r run.best o now x) (sym (opened_is f ∙ lower_halts _ o.row o.place (h f a))) (n, refl, refl)
+    pub visited_halts : (h : Halt) → ((f : ℕ) → sum_of size (state_of s).pieces ≤ suc f → whole_of r setting room f s least first found D.memo ≡ halted_as h) → (now : List ℕ)
+        → Visited r setting room s run m (Err h) now
+    visited_halts h e now zero a b = absurd (omega arith)
+    visited_halts h e now (suc f) a b = opened_is f ∙ lower_halts _ h (e f a)
 
-    pub visited_answers : (last o : code_outcome.Outcome) (now : List ℕ) → Lowered last o → last.row ≡ 0 → last.length ≤ 32 → last.run.best ≤ run.best
+    pub visited_answers : (last o : Found) (now : List ℕ) → Lowered last o → last.length ≤ 32 → last.run.best ≤ run.best
         → ((f : ℕ) → sum_of size (state_of s).pieces ≤ suc f → (n : List Entry) × Stored r now last.run.entries n
-        × (whole_of r setting room f s least first found D.memo ≡ answers last.answer (take last.length last.trail) (run_of last.run n)))
-        → Visited r setting room s run m o now
-    visited_answers last o now w z l b h zero p q = absurd (omega arith)
-    visited_answers last o now w z l b h (suc f) p q =
+        × (whole_of r setting room f s least first found D.memo ≡ answers last.index (take last.length last.trail) (run_of last.run n)))
+        → Visited r setting room s run m (Ok o) now
+    visited_answers last o now w l b h zero p q = absurd (omega arith)
+    visited_answers last o now w l b h (suc f) p q =
         let k = h f p in
-        let c : o.run.entries ≡ last.run.entries = w.entries in
-        subst (λ (x : Outcome). Follows r run.best o now x) (sym (opened_is f ∙ lower_answers _ _ _ _ k.2))
-        (w.row ∙ z, w.answer, omega (arith, w.length), rw (w.length, w.trail), w.best, omega (arith, w.best), w.states, rw c k.1)
+        record {
+          memo = k.0;
+          is = opened_is f ∙ lower_answers _ _ _ _ k.2 ∙ rw (w.index, w.length, w.trail, w.best, w.states);
+          short = omega (arith, w.length);
+          low = omega (arith, w.best);
+          stored = let c : o.run.entries ≡ last.run.entries = w.entries in rw c k.1;
+        }
 
 -- ---- where entering led
 
-module _ (r : Bytes) (setting : Setting) (room : ℕ) (s : code.State) (run : code_run.Run) (m : List Entry) (words : List ℕ) (g : Gate) (next : code_run.Run) (e : g ≡ Opens next) where
-  pub gate_goes : Gated r setting room s run m words g → Opened r setting room s run m words next
-  gate_goes G = subst (Gated r setting room s run m words) e G
+module _ (r : Bytes) (setting : Setting) (room : ℕ) (s : code.State) (run : code_run.Run) (m : List Entry) (words : List ℕ) (g : Gate) (next : code_run.Run) where
+  pub gate_goes : g ≡ Opens next → Gated r setting room s run m words (Ok g) → Opened r setting room s run m words next
+  gate_goes e G = subst (λ x. Gated r setting room s run m words (Ok x)) e G
 
-pub shut_goes : {s : code.State} {o : code_outcome.Outcome} {g : Gate} (next : code_run.Run) → g ≡ Opens next → OutcomeAtOnce s o g → OwnAnswer s next o
-shut_goes {s} {o} next e G = subst (OutcomeAtOnce s o) e G
+  pub gate_stops : g ≡ Stops next → Gated r setting room s run m words (Ok g) → StoppedState r setting room s run m words next
+  gate_stops e G = subst (λ x. Gated r setting room s run m words (Ok x)) e G
 
 -- ---- the root
 
@@ -463,7 +441,7 @@ module _ (r : Bytes) (ok : check r ≡ accepted) (s : code.State) (e : state_of 
   }
 
   -- a removal strikes two bonds at least, so the depth of the search is enough
-  pub root_found : (setting : Setting) (room n : ℕ) → bonds r ≡ n → (o : code_outcome.Outcome) (words : List ℕ)
+  pub root_found : (setting : Setting) (room n : ℕ) → bonds r ≡ n → (o : Result Found Halt) (words : List ℕ)
       → Visited r setting room s (record { best = n - 1; states = 0; entries = 0 }) [] o words → Searches r setting room o words
   unfolding search
   root_found setting room n q o words w =

@@ -9,7 +9,7 @@ ghost use Rattle.memoize.specs.Inner.Stored.{Stored};
 ghost use Rattle.recurse.specs.Inner.Follows.{Searches};
 
 use crate::visit;
-use crate::visit::Outcome;
+use crate::visit::{Found, Halt};
 use canonize::slate;
 use molecule::{fields, graph};
 use search::Setting;
@@ -21,7 +21,7 @@ pub fn run(
     setting: Setting,
     memo: &mut [u64],
     desk: &mut [u64],
-) -> Outcome
+) -> Result<Found, Halt>
     requires { (check bytes.now ≡ accepted) × Recorded pairs.now (matches_of bytes.now) × (length pairs.now ≡ 4 * length (matches_of bytes.now))
         × (length (matches_of bytes.now) ≤ 4294967295) × Stored bytes.now memo.old 0 [] × Cached bytes.now desk.old }
     ensures { Searches bytes.now setting (memo_room (length memo.old)) result memo.new }

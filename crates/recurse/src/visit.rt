@@ -6,65 +6,63 @@ ghost use Rattle.search.specs.Memo.{Entry};
 ghost use Rattle.branch.specs.Inner.Entered.{Entered};
 ghost use Rattle.desk.specs.Inner.Cached.{Cached, Lent};
 ghost use Rattle.memoize.specs.Inner.Stored.{Stored};
-ghost use Rattle.recurse.specs.Inner.Follows.{MayEnter, MayStart, Visited, Searches, IntStops, gate_of, Gated, OwnAnswer, OutcomeAtOnce, better_of, Lowered};
+ghost use Rattle.recurse.specs.Inner.Follows.{MayEnter, MayStart, Visited, Searches, IntStops, gate_of, Gated, OwnAnswer, better_of, Lowered};
 
-use memoize::Asked;
+use memoize::Full;
 use search::Setting;
 use state::State;
 
 // What is carried from state to state: best, the states entered, and how many entries the memo has.
-#[derive(Clone, Copy)]
+#[derive(Clone, Copy, Debug, PartialEq, Eq)]
 pub struct Run {
     pub best: u32,
     pub states: u32,
     pub entries: usize,
 }
 
-// Row 0 with an answer and its trail, so many numbers, and what is carried then; or row 11 or 12 with its place.
-#[derive(Clone, Copy)]
-pub struct Outcome {
-    pub row: u32,
-    pub place: u64,
-    pub answer: u32,
+// An index with its trail, so many numbers, and what is carried then.
+#[derive(Clone, Copy, Debug, PartialEq, Eq)]
+pub struct Found {
+    pub index: u32,
     pub trail: [u32; 32],
     pub length: usize,
     pub run: Run,
 }
 
-// A state that is entered goes on or is stopped, with what is carried then; or it ends the search on a row.
-#[derive(Clone, Copy)]
+// What ends a search early: the budget, which it would exceed (row 11); or the memo, every entry of which was used after so many states (row 12).
+#[derive(Clone, Copy, Debug, PartialEq, Eq)]
+pub enum Halt {
+    Budget(u32),
+    Memo(u32),
+}
+
+// A state that is entered goes on or is stopped, with what is carried then.
+#[derive(Clone, Copy, Debug, PartialEq, Eq)]
 pub enum Gate {
     Goes(Run),
     Stops(Run),
-    Ends(u32, u64),
 }
 
 // Whether Int stops the state.
-fn int_stops(bounds: u32, s: State, best: u32) -> bool
-    requires { (s.count ≤ 32) × (s.largest ≤ 64) }
-    ensures { IntStops bounds s best result }
+fn int_stops(bounds: u32, s: &State, best: u32) -> bool
+    requires { (s.now.count ≤ 32) × (s.now.largest ≤ 64) }
+    ensures { IntStops bounds s.now best result }
 {
     if !branch::has(bounds, 1) {
         return false;
     }
-    let pieces = s.pieces;
-    let n = s.count;
-    let j = bounds::int_bound(&pieces[0..n], s.largest);
-    best as u64 + j as u64 <= s.index as u64
+    let j = bounds::int_bound(&s.pieces[..s.count], s.largest);
+    u64::from(best) + u64::from(j) <= u64::from(s.index)
 }
 
 // Where the memo's answer leads a state that has been counted.
-fn passed(asked: Asked, run: Run) -> Gate
+fn passed(asked: Result<Option<usize>, Full>, run: Run) -> Result<Gate, Halt>
     ensures { result ≡ gate_of asked run }
 {
     match asked {
-        Asked::Stopped => Gate::Stops(run),
-        Asked::Full => Gate::Ends(12, run.states as u64),
-        Asked::Goes(e) => Gate::Goes(Run {
-            best: run.best,
-            states: run.states,
-            entries: e,
-        }),
+        Ok(Some(entries)) => Ok(Gate::Goes(Run { entries, ..run })),
+        Ok(None) => Ok(Gate::Stops(run)),
+        Err(_) => Err(Halt::Memo(run.states)),
     }
 }
 
@@ -76,117 +74,77 @@ fn enter(
     memo: &mut [u64],
     desk: &mut [u64],
     slate: &mut [u8],
-    s: State,
+    s: &State,
     run: Run,
-) -> Gate
-    requires { Entered bytes.now s × Lent bytes.now at.now desk.old slate.old × ((m : List Entry)
+) -> Result<Gate, Halt>
+    requires { Entered bytes.now s.now × Lent bytes.now at.now desk.old slate.old × ((m : List Entry)
         × Stored bytes.now memo.old run.entries m) }
     ensures gated { (m : List Entry) → Stored bytes.now memo.old run.entries m
-        → Gated bytes.now setting (memo_room (length memo.old)) s run m memo.new result }
+        → Gated bytes.now setting (memo_room (length memo.old)) s.now run m memo.new result }
     ensures cached { Cached bytes.now desk.new }
     ensures slate { Slate slate.new }
 {
     if setting.budget <= run.states {
-        return Gate::Ends(11, setting.budget as u64);
+        return Err(Halt::Budget(setting.budget));
     }
     let next = Run {
-        best: run.best,
         states: run.states + 1,
-        entries: run.entries,
+        ..run
     };
     if int_stops(setting.bounds, s, run.best) {
-        return Gate::Stops(next);
+        return Ok(Gate::Stops(next));
     }
     if setting.memo != 1 {
-        return Gate::Goes(next);
+        return Ok(Gate::Goes(next));
     }
-    let pieces = s.pieces;
-    let n = s.count;
-    let removals = s.removals;
-    let k = s.removed;
     let asked = memoize::ask(
         bytes,
         at,
         memo,
         run.entries,
-        &pieces[0..n],
+        &s.pieces[..s.count],
         s.index,
-        &removals[0..k],
+        &s.removals[..s.removed],
         desk,
         slate,
     );
     passed(asked, next)
 }
 
-// The outcome on a row.
-fn halted(row: u32, place: u64) -> Outcome
-    ensures { (result.row ≡ row) × (result.place ≡ place) }
-{
-    Outcome {
-        row: row,
-        place: place,
-        answer: 0,
-        trail: [0u32; 32],
-        length: 0,
-        run: Run {
-            best: 0,
-            states: 0,
-            entries: 0,
-        },
-    }
-}
-
 // A state's own index and removals as its answer.
-fn own_answer(s: State, run: Run) -> Outcome
-    ensures { OwnAnswer s run result }
+fn own_answer(s: &State, run: Run) -> Found
+    ensures { OwnAnswer s.now run result }
 {
-    let trail = s.removals;
-    Outcome {
-        row: 0,
-        place: 0,
-        answer: s.index,
-        trail: trail,
+    Found {
+        index: s.index,
+        trail: s.removals,
         length: s.removed,
-        run: run,
-    }
-}
-
-// The outcome of a state before any child: on a row, or with its own answer.
-fn shut(gate: Gate, s: State) -> Outcome
-    ensures { OutcomeAtOnce s result gate }
-{
-    match gate {
-        Gate::Ends(n, p) => halted(n, p),
-        Gate::Stops(run) => own_answer(s, run),
-        Gate::Goes(run) => own_answer(s, run),
+        run,
     }
 }
 
 // What is found so far, after a child's answer: what is carried is the child's, and the answer where it is less.
-fn better(found: Outcome, child: Outcome) -> Outcome
+fn better(found: Found, child: Found) -> Found
     ensures { result ≡ better_of found child }
 {
-    if child.answer < found.answer {
+    if child.index < found.index {
         return child;
     }
-    let run = child.run;
-    let mut r = found;
-    r.run = run;
-    r
+    Found {
+        run: child.run,
+        ..found
+    }
 }
 
 // Best lowered to the answer.
-fn lowered(found: Outcome) -> Outcome
+fn lowered(found: Found) -> Found
     ensures { Lowered found result }
 {
-    let mut run = found.run;
-    if run.best <= found.answer {
-        return found;
+    let best = found.run.best.min(found.index);
+    Found {
+        run: Run { best, ..found.run },
+        ..found
     }
-    run.best = found.answer;
-    let mut r = found;
-    r.run = run;
-    r
 }
 
 // Enters a state and, unless it is stopped, each child in turn, with what is carried then; at the end best is lowered to the least answer.
@@ -199,37 +157,33 @@ fn visit(
     memo: &mut [u64],
     desk: &mut [u64],
     slate: &mut [u8],
-    s: State,
+    s: &State,
     run: Run,
-) -> Outcome
-    requires { MayEnter bytes.now at.now touch.now pairs.now memo.old desk.old slate.old s run }
+) -> Result<Found, Halt>
+    requires { MayEnter bytes.now at.now touch.now pairs.now memo.old desk.old slate.old s.now run }
     ensures follows { (m : List Entry) → Stored bytes.now memo.old run.entries m
-        → Visited bytes.now setting (memo_room (length memo.old)) s run m result memo.new }
+        → Visited bytes.now setting (memo_room (length memo.old)) s.now run m result memo.new }
     ensures cached { Cached bytes.now desk.new }
     ensures slate { Slate slate.new }
 {
-    let gate = enter(bytes, at, setting, memo, desk, slate, s, run);
-    let mut found = shut(gate, s);
-    let Gate::Goes(next) = gate else {
-        return found;
+    let next = match enter(bytes, at, setting, memo, desk, slate, s, run)? {
+        Gate::Stops(next) => return Ok(own_answer(s, next)),
+        Gate::Goes(next) => next,
     };
+    let mut found = own_answer(s, next);
     let matches = pairs.len() / 4;
-    let b = branch::branch_of(touch, pairs, matches, setting.bounds, s, next.best);
-    let owners = b.own;
-    let held = b.held;
-    let k = b.count;
-    let mut m = branch::next(pairs, b.first, matches, &owners, b.all, b.least);
+    let b = branch::branch_of(touch, pairs, matches, setting.bounds, *s, next.best);
+    let mut m = branch::next(pairs, b.first, matches, &b.own, b.all, b.least);
+    // A while: which match comes next is found by a search of its own.
     while m < matches {
-        let c = branch::below(touch, pairs, s, &held[0..k], m);
-        let last = found.run;
-        let g = visit(bytes, at, touch, pairs, setting, memo, desk, slate, c, last);
-        if g.row != 0 {
-            return g;
-        }
-        found = better(found, g);
-        m = branch::next(pairs, m + 1, matches, &owners, b.all, b.least);
+        let c = branch::below(touch, pairs, *s, &b.held[..b.count], m);
+        let child = visit(
+            bytes, at, touch, pairs, setting, memo, desk, slate, &c, found.run,
+        )?;
+        found = better(found, child);
+        m = branch::next(pairs, m + 1, matches, &b.own, b.all, b.least);
     }
-    lowered(found)
+    Ok(lowered(found))
 }
 
 // The search of a record of n bonds, from the root and with best n - 1.
@@ -243,7 +197,7 @@ pub fn search(
     desk: &mut [u64],
     slate: &mut [u8],
     n: usize,
-) -> Outcome
+) -> Result<Found, Halt>
     requires { MayStart bytes.now at.now touch.now pairs.now memo.old desk.old slate.old n }
     ensures follows { Searches bytes.now setting (memo_room (length memo.old)) result memo.new }
 {
@@ -253,5 +207,5 @@ pub fn search(
         states: 0,
         entries: 0,
     };
-    visit(bytes, at, touch, pairs, setting, memo, desk, slate, s, run)
+    visit(bytes, at, touch, pairs, setting, memo, desk, slate, &s, run)
 }

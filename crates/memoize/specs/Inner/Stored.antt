@@ -2,7 +2,7 @@
 -- 32 to 63 the hashes of the sets' labels, 64 how many pieces, 65 how many removals, 66 the index, 67 the sum of the hashes,
 -- 68 one more than the entry before it in its bucket, 0 for none. Word 69 is of bucket i: one more than its last entry, 0 for none.
 -- An entry's bucket is its sum modulo the number of entries that have room. The entry of a state that asks is laid out alike, in 80 words of its own.
-use Rattle.std.specs.Prelude.{◌≡◌, ◌≢◌, true, false, List, [], ◌∷◌, map, ℕ, zero, suc, ◌+◌, ◌*◌, ◌/◌, ◌%◌, ◌≤◌, ◌<◌, length, get_or, take, drop, eqb}
+use Rattle.std.specs.Prelude.{◌≡◌, ◌≢◌, true, false, List, [], ◌∷◌, map, ℕ, zero, suc, ◌+◌, ◌*◌, ◌/◌, ◌%◌, ◌≤◌, ◌<◌, Option, Some, None, Result, Ok, Err, length, get_or, take, drop, eqb}
 use Rattle.bitset.specs.Bits.{bit}
 use Rattle.molecule.specs.Lists.{Bytes}
 use Rattle.molecule.specs.Touch.{bonds_at_words}
@@ -13,8 +13,7 @@ use Rattle.canonize.specs.Label.{label}
 use Rattle.canonize.specs.Inner.Slate.{Slate}
 use Rattle.desk.specs.Inner.Cached.{Stands}
 use Rattle.search.specs.Memo.{Entry, Memo, goes, stopped, full}
-use Rattle.memoize.specs.declared.Asked.{Asked}
-use Rattle.memoize.specs.declared.Asked.TheVariants.{Goes, Stopped, Full}
+use Rattle.memoize.specs.declared.Full.{Full}
 
 -- an accepted record with the words of the bonds at its atoms, and a slate to write its labels on
 pub record Writing (r : Bytes) (at s : List ℕ) : Type 0 where
@@ -56,12 +55,16 @@ label_at r words base j = label r (get_or words (base + j) 0)
 unfoldable pub labels : Bytes → List ℕ → ℕ → ℕ → List Bytes
 labels r words base n = map (label r) (take n (drop base words))
 
--- k is the first of n that is not used and has this label, n where there is none
-pub record Picked (f : ℕ → Bytes) (n used : ℕ) (x : Bytes) (k : ℕ) : Type 0 where
-  pub within : k ≤ n
-  pub free : k < n → bit used k ≡ 0
-  pub hit : k < n → f k ≡ x
-  pub none : n ≤ k → (j : ℕ) → j < n → bit used j ≡ 0 → f j ≢ x
+-- k is one of n that is not used and has this label
+pub record Hit (f : ℕ → Bytes) (n used : ℕ) (x : Bytes) (k : ℕ) : Type 0 where
+  pub within : k < n
+  pub free : bit used k ≡ 0
+  pub same : f k ≡ x
+
+-- one of n that is not used and has this label is picked, if there is one
+abbrev pub Picked : (ℕ → Bytes) → ℕ → ℕ → Bytes → Option ℕ → Type 0
+Picked f n used x (Some k) = Hit f n used x k
+Picked f n used x None = (j : ℕ) → j < n → bit used j ≡ 0 → f j ≢ x
 
 -- ---- entries
 
@@ -105,11 +108,10 @@ pub record Stored (r : Bytes) (words : List ℕ) (entries : ℕ) (memo : List En
   pub chained : Chained words (length words / 80) entries
   pub distinct : (i j : ℕ) → i < j → j < entries → (get_or memo i none).key ≢ (get_or memo j none).key
 
--- e is the entry of this key, the number of entries where there is none
-pub record Located (memo : List Entry) (key : List Bytes) (e : ℕ) : Type 0 where
-  pub within : e ≤ length memo
-  pub hit : e < length memo → (get_or memo e none).key ≡ key
-  pub none : length memo ≤ e → (i : ℕ) → i < length memo → (get_or memo i none).key ≢ key
+-- the entry of this key is located, if there is one
+abbrev pub Located : List Entry → List Bytes → Option ℕ → Type 0
+Located memo key (Some e) = (e < length memo) × ((get_or memo e none).key ≡ key)
+Located memo key None = (i : ℕ) → i < length memo → (get_or memo i none).key ≢ key
 
 -- ---- writing
 
@@ -134,7 +136,7 @@ abbrev pub entry_with : Bytes → List ℕ → ℕ → List ℕ → Entry
 entry_with r pieces index removals = record { key = sort (map (label r) pieces); index = index; removals = removals }
 
 -- the words were old and are now: the answer is that of the memo's definition
-abbrev pub MemoAnswers : Bytes → List ℕ → List ℕ → Asked → Memo → Type 0
-MemoAnswers r old now a (goes m) = (e : ℕ) × (a ≡ Goes e) × Stored r now e m
-MemoAnswers r old now a stopped = (a ≡ Stopped) × (now ≡ old)
-MemoAnswers r old now a full = (a ≡ Full) × (now ≡ old)
+abbrev pub MemoAnswers : Bytes → List ℕ → List ℕ → Result (Option ℕ) Full → Memo → Type 0
+MemoAnswers r old now a (goes m) = (e : ℕ) × (a ≡ Ok (Some e)) × Stored r now e m
+MemoAnswers r old now a stopped = (a ≡ Ok None) × (now ≡ old)
+MemoAnswers r old now a full = (a ≡ Err (record {})) × (now ≡ old)

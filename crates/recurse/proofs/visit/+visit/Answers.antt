@@ -1,11 +1,6 @@
--- `recurse::visit::visit` meets its contract, turn by turn of its loop (proofs/Turns).
-use mathlib.Core.Path.{◌≡◌, refl, sym, ap, subst, ◌∙◌}
-use mathlib.Core.List.{List}
-use mathlib.Core.Bool.{true}
-use native.Mathlib.Omega.{arith}
-use borrow.Author.Rules.{rules}
-use Prim.Native.Nat.{ℕ, ◌-◌, ◌≤◌, ◌<◌}
-use lib.ListN.{length, take, drop}
+-- The search, turn by turn of its loop over the removals (proofs/Turns).
+use Rattle.std.proofs.Common.{◌≡◌, refl, sym, ap, subst, List, true, arith, ℕ, ◌≤◌, ◌<◌, length, take}
+use Rattle.std.proofs.lemmas.Result.{err_from_is_err_and}
 use Rattle.bitset.specs.Bits.{size}
 use Rattle.bounds.specs.Numbers.{sum_of}
 use Rattle.molecule.specs.Lists.{Bytes}
@@ -17,87 +12,68 @@ use Rattle.state.specs.Inner.Views.{state_of}
 use Rattle.state.specs.Inner.Scan.{goes}
 use Rattle.branch.specs.declared.Branch.{Branch}
 use Rattle.branch.specs.Inner.Branching.{Branched, Chooses}
-use Rattle.branch.proofs.Branching.{part_zero, below_falls}
+use Rattle.branch.proofs.Branching.{below_falls}
 use Rattle.recurse.specs.declared.visit.Run.{Run}
-use Rattle.recurse.proofs.Turns.{kept_start, kept_done, kept_halts, kept_next, own_stored, visited_shut, visited_halts, visited_answers, gate_goes, shut_goes}
+use Rattle.recurse.proofs.Turns.{kept_start, kept_done, kept_halts, kept_next, own_stored, visited_ended, visited_stopped, visited_halts, visited_answers, gate_goes, gate_stops}
 use Rattle.recurse.proofs.visit.+visit.Goals as goal
 
 -- the match of a turn is removable
 chooses : {r : Bytes} {words : List ℕ} {bounds best : ℕ} {s : State} {b : Branch} → Branched r words bounds s best b → (m : ℕ) → b.first ≤ m → m < length (pairs r)
-    → goes (pairs r) (state_of s).pieces m ≡ true → Chooses r s (take (b.count - 0) (drop 0 b.held)) m
-chooses {b = b} B m a w g = record {
-  after = omega (arith, B.after, a);
-  within = w;
-  removes = g;
-  keeps = part_zero b.count b.held ∙ B.held;
-}
+    → goes (pairs r) (state_of s).pieces m ≡ true → Chooses r s (take b.count b.held) m
+chooses B m a w g = record { after = omega (arith, B.after, a); within = w; removes = g; keeps = B.held }
 
-pub returns-in_default : goal.returns-in_default
-returns-in_default t c =
+pub returns-in_err-next-clause-follows : goal.returns-in_err-next-clause-follows
+returns-in_err-next-clause-follows t c = λ m w.
     let a = c.args in
-    let n = c.enter-gate in
-    record {
-      follows = λ m w. visited_shut a.bytes.now a.setting _ a.s a.run m n.new.memo n.result c.shut-found.result (n.ensures.gated m w) c.shut-found.ensures c.requires.entered.removals
-          (λ next e. absurd (c.in_default.not-Goes next e));
-      cached = n.ensures.cached;
-      slate = n.ensures.slate;
-    }
+    let p = err_from_is_err_and c.from_residual.result c.from_residual.ensures.1 in
+    rw (p.1, p.2) (visited_ended a.bytes.now a.setting _ a.s.now a.run m c.enter.new.memo _ (c.in_err-next.ensures.gated m w))
+
+pub returns-in-Stops-clause-follows : goal.returns-in-Stops-clause-follows
+returns-in-Stops-clause-follows t c = λ m w.
+    let a = c.args in
+    let D = gate_stops a.bytes.now a.setting _ a.s.now a.run m c.enter.new.memo _ c.in-Stops.next c.in-Stops.is (c.in_ok-next.ensures.gated m w) in
+    visited_stopped a.bytes.now a.setting _ a.s.now a.run m c.enter.new.memo c.in-Stops.next c.own_answer.result D c.own_answer.ensures c.requires.entered.removals
 
 pub next-m-requires : goal.next-m-requires
 next-m-requires t c =
     let a = c.args in
     let R = c.requires in
     let B = c.branch_of-b.ensures a.bytes.now a.at.now R.searched R.entered in
-    (omega (arith, B.within, R.searched.count), (pairs a.bytes.now, (state_of a.s).pieces, B.scanning, R.searched.count))
+    (omega (arith, B.within, R.searched.count), (pairs a.bytes.now, (state_of a.s.now).pieces, B.scanning, R.searched.count))
 
 pub loop-m-init : goal.loop-m-init
 loop-m-init t c =
     let a = c.args in
     let R = c.requires in
-    let n = c.enter-gate in
-    let g = c.in-Goes in
+    let e = c.in_ok-next.ensures in
     let B = c.branch_of-b.ensures a.bytes.now a.at.now R.searched R.entered in
-    let N = c.next-m.ensures a.bytes.now (pairs a.bytes.now) (state_of a.s).pieces (table_laws a.bytes.now R.searched.ok) B.scanning R.searched.count in
-    let D = gate_goes a.bytes.now a.setting _ a.s a.run R.stored.0 n.new.memo n.result _ g.is (n.ensures.gated R.stored.0 R.stored.1) in
-    kept_start (shut_goes _ g.is c.shut-found.ensures) R.entered N (n.ensures.cached, n.ensures.slate) (D.memo, D.stored)
+    let N = c.next-m.ensures a.bytes.now (pairs a.bytes.now) (state_of a.s.now).pieces (table_laws a.bytes.now R.searched.ok) B.scanning R.searched.count in
+    let D = gate_goes a.bytes.now a.setting _ a.s.now a.run R.stored.0 c.enter.new.memo _ c.in-Goes.next c.in-Goes.is (e.gated R.stored.0 R.stored.1) in
+    kept_start c.own_answer-found.ensures R.entered N (e.cached, e.slate) (D.memo, D.stored)
 
-pub slice_bounds-below-end : goal.slice_bounds-below-end
-slice_bounds-below-end t c =
-    let R = c.requires in
-    let b = c.branch_of-b in
-    let B = b.ensures c.args.bytes.now c.args.at.now R.searched R.entered in
-    let g = b.type_inv in
-    let e : length b.result.held ≡ 32 = search rules in
-    omega (arith, e, B.few)
+pub shared_ref_as_front-below : goal.shared_ref_as_front-below
+shared_ref_as_front-below t c = (c.branch_of-b.ensures c.args.bytes.now c.args.at.now c.requires.searched c.requires.entered).few
 
 pub below-c-requires : goal.below-c-requires
 below-c-requires t c =
     let a = c.args in
     let R = c.requires in
     let k = c.loop-m.invariant in
-    let l : c.loop-m.m < length (pairs a.bytes.now) = omega (arith, c.loop-m-test.true, R.searched.count) in (
-      a.bytes.now,
-      a.at.now,
-      _,
-      R.searched,
-      R.entered,
-      chooses (c.branch_of-b.ensures a.bytes.now a.at.now R.searched R.entered) c.loop-m.m k.after l (k.turn.removes l),
-    )
+    let l : c.loop-m.m < length (pairs a.bytes.now) = omega (arith, c.loop-m-test.true, R.searched.count) in
+    let B = c.branch_of-b.ensures a.bytes.now a.at.now R.searched R.entered in
+    (a.bytes.now, a.at.now, _, R.searched, R.entered, chooses B c.loop-m.m k.after l (k.turn.removes l))
 
-pub visit-g-requires : goal.visit-g-requires
-visit-g-requires t c =
+pub visit-requires : goal.visit-requires
+visit-requires t c =
     let a = c.args in
     let R = c.requires in
     let k = c.loop-m.invariant in
     let l : c.loop-m.m < length (pairs a.bytes.now) = omega (arith, c.loop-m-test.true, R.searched.count) in
     let h = chooses (c.branch_of-b.ensures a.bytes.now a.at.now R.searched R.entered) c.loop-m.m k.after l (k.turn.removes l) in
     let B = c.below-c.ensures a.bytes.now a.at.now _ R.searched R.entered h in
-    let z = below_falls a.bytes.now R.searched.ok a.s R.entered _ c.loop-m.m h c.below-c.result B in
-    let n = c.enter-gate in
-    let g = c.in-Goes in
-    let D = gate_goes a.bytes.now a.setting _ a.s a.run R.stored.0 n.new.memo n.result _ g.is (n.ensures.gated R.stored.0 R.stored.1) in
-    let own = shut_goes _ g.is c.shut-found.ensures in
-    let low : c.loop-m.found.run.best ≤ 64 = omega (arith, k.low, ap (λ (x : Run). x.best) own.carried, D.counted.best, R.low) in (
+    let z = below_falls a.bytes.now R.searched.ok a.s.now R.entered _ c.loop-m.m h c.below-c.result B in
+    let D = gate_goes a.bytes.now a.setting _ a.s.now a.run R.stored.0 c.enter.new.memo _ c.in-Goes.next c.in-Goes.is (c.in_ok-next.ensures.gated R.stored.0 R.stored.1) in
+    let low : c.loop-m.found.run.best ≤ 64 = omega (arith, k.low, ap (λ (x : Run). x.best) c.own_answer-found.ensures.carried, D.counted.best, R.low) in (
       subst (λ (j : ℕ). sum_of size (state_of c.below-c.result).pieces < j) c.decreases (omega (arith, z.0)),
       record {
         searched = R.searched;
@@ -108,41 +84,38 @@ visit-g-requires t c =
       },
     )
 
-pub returns-then-g-ne0-clause-follows : goal.returns-then-g-ne0-clause-follows
-returns-then-g-ne0-clause-follows t c =
+pub returns-in_err-child-clause-follows : goal.returns-in_err-child-clause-follows
+returns-in_err-child-clause-follows t c = λ m w.
     let a = c.args in
     let R = c.requires in
-    let n = c.enter-gate in
-    let g = c.in-Goes in
     let b = c.branch_of-b in
     let k = c.loop-m.invariant in
-    let v = c.visit-g in
-    let own = shut_goes _ g.is c.shut-found.ensures in
+    let v = c.visit in
+    let own = c.own_answer-found.ensures in
+    let D = gate_goes a.bytes.now a.setting _ a.s.now a.run m c.enter.new.memo _ c.in-Goes.next c.in-Goes.is (c.in_ok-next.ensures.gated m w) in
     let l : c.loop-m.m < length (pairs a.bytes.now) = omega (arith, c.loop-m-test.true, R.searched.count) in
     let Q = b.ensures a.bytes.now a.at.now R.searched R.entered in
     let h = chooses Q c.loop-m.m k.after l (k.turn.removes l) in
     let B = c.below-c.ensures a.bytes.now a.at.now _ R.searched R.entered h in
-    λ m w.
-    let D = gate_goes a.bytes.now a.setting _ a.s a.run m n.new.memo n.result _ g.is (n.ensures.gated m w) in
-    visited_halts a.bytes.now a.setting _ a.s a.run m n.new.memo _ b.result.least b.result.first D c.shut-found.result own
-    (Q.tries a.setting _ refl)
-    v.result c.if-g-ne0.true
-    (kept_halts k R.searched.ok R.entered _ h c.below-c.result B v.result v.new.memo v.ensures.follows c.if-g-ne0.true _ (ap memo_room (sym n.auto.memo)) D.memo (own_stored own D.stored))
-    v.new.memo
+    let p = err_from_is_err_and c.from_residual-in_err-child.result c.from_residual-in_err-child.ensures.1 in
+    rw (p.1, p.2)
+    (visited_halts a.bytes.now a.setting _ a.s.now a.run m c.enter.new.memo _ b.result.least b.result.first D c.own_answer-found.result own (Q.tries a.setting _ refl) _
+    (kept_halts k R.searched.ok R.entered _ h c.below-c.result B v.result v.new.memo v.ensures.follows _ c.in_err-child.was _ (ap memo_room (sym c.enter.auto.memo)) D.memo (own_stored own D.stored))
+    v.new.memo)
 
 pub next-m-requires-in-loop-m : goal.next-m-requires-in-loop-m
 next-m-requires-in-loop-m t c =
     let a = c.args in
     let R = c.requires in
     let B = c.branch_of-b.ensures a.bytes.now a.at.now R.searched R.entered in
-    (omega (arith, c.loop-m-test.true), (pairs a.bytes.now, (state_of a.s).pieces, B.scanning, R.searched.count))
+    (omega (arith, c.loop-m-test.true), (pairs a.bytes.now, (state_of a.s.now).pieces, B.scanning, R.searched.count))
 
 pub loop-m-smaller : goal.loop-m-smaller
 loop-m-smaller t c =
     let a = c.args in
     let R = c.requires in
     let B = c.branch_of-b.ensures a.bytes.now a.at.now R.searched R.entered in
-    let N = c.next-m-in-loop-m.ensures a.bytes.now (pairs a.bytes.now) (state_of a.s).pieces (table_laws a.bytes.now R.searched.ok) B.scanning R.searched.count in
+    let N = c.next-m-in-loop-m.ensures a.bytes.now (pairs a.bytes.now) (state_of a.s.now).pieces (table_laws a.bytes.now R.searched.ok) B.scanning R.searched.count in
     omega (arith, N.after, c.loop-m-test.true)
 
 pub loop-m-preserved : goal.loop-m-preserved
@@ -150,28 +123,26 @@ loop-m-preserved t c =
     let a = c.args in
     let R = c.requires in
     let Q = c.branch_of-b.ensures a.bytes.now a.at.now R.searched R.entered in
-    let N = c.next-m-in-loop-m.ensures a.bytes.now (pairs a.bytes.now) (state_of a.s).pieces (table_laws a.bytes.now R.searched.ok) Q.scanning R.searched.count in
+    let N = c.next-m-in-loop-m.ensures a.bytes.now (pairs a.bytes.now) (state_of a.s.now).pieces (table_laws a.bytes.now R.searched.ok) Q.scanning R.searched.count in
     let k = c.loop-m.invariant in
-    let v = c.visit-g in
+    let v = c.visit in
     let l : c.loop-m.m < length (pairs a.bytes.now) = omega (arith, c.loop-m-test.true, R.searched.count) in
     let h = chooses Q c.loop-m.m k.after l (k.turn.removes l) in
-    kept_next k R.searched.ok R.entered _ h c.below-c.result (c.below-c.ensures a.bytes.now a.at.now _ R.searched R.entered h) v.result v.new.memo v.ensures.follows c.if-g-ne0.false
+    kept_next k R.searched.ok R.entered _ h c.below-c.result (c.below-c.ensures a.bytes.now a.at.now _ R.searched R.entered h) v.result v.new.memo v.ensures.follows
+    c.in_ok-child.child c.in_ok-child.was
     c.next-m-in-loop-m.result N c.better-found.result c.better-found.ensures
     v.new.desk v.new.slate (v.ensures.cached, v.ensures.slate) v.auto.memo v.auto.desk v.auto.slate
 
 pub returns-clause-follows : goal.returns-clause-follows
-returns-clause-follows t c =
+returns-clause-follows t c = λ m w.
     let a = c.args in
     let R = c.requires in
-    let n = c.enter-gate in
-    let g = c.in-Goes in
     let b = c.branch_of-b in
     let k = c.loop-m.invariant in
     let l = c.loop-m in
-    let own = shut_goes _ g.is c.shut-found.ensures in
-    λ m w.
-    let D = gate_goes a.bytes.now a.setting _ a.s a.run m n.new.memo n.result _ g.is (n.ensures.gated m w) in
-    visited_answers a.bytes.now a.setting _ a.s a.run m n.new.memo _ b.result.least b.result.first D c.shut-found.result own
+    let own = c.own_answer-found.ensures in
+    let D = gate_goes a.bytes.now a.setting _ a.s.now a.run m c.enter.new.memo _ c.in-Goes.next c.in-Goes.is (c.in_ok-next.ensures.gated m w) in
+    visited_answers a.bytes.now a.setting _ a.s.now a.run m c.enter.new.memo _ b.result.least b.result.first D c.own_answer-found.result own
     ((b.ensures a.bytes.now a.at.now R.searched R.entered).tries a.setting _ refl)
-    l.found c.lowered.result l.memo c.lowered.ensures k.row k.short (omega (arith, k.low, ap (λ (x : Run). x.best) own.carried, D.counted.best))
-    (kept_done k R.searched.ok (omega (arith, k.turn.within, c.loop-m-test.false, R.searched.count)) _ (ap memo_room (sym n.auto.memo)) D.memo (own_stored own D.stored))
+    l.found c.lowered.result l.memo c.lowered.ensures k.short (omega (arith, k.low, ap (λ (x : Run). x.best) own.carried, D.counted.best))
+    (kept_done k R.searched.ok (omega (arith, k.turn.within, c.loop-m-test.false, R.searched.count)) _ (ap memo_room (sym c.enter.auto.memo)) D.memo (own_stored own D.stored))

@@ -1,5 +1,5 @@
--- `recurse::visit::visit` ends by the bonds in pieces, which fall. What its loop keeps is `Kept` (proofs/Turns).
-use Prim.Native.Nat.{◌-◌}
+-- The search ends by the bonds in pieces, which fall. What the loop over the removals keeps is `Kept` (proofs/Turns).
+use Rattle.std.proofs.Common.{◌-◌}
 use Rattle.bitset.specs.Bits.{size}
 use Rattle.bounds.specs.Numbers.{sum_of}
 use Rattle.state.specs.Inner.Views.{state_of}
@@ -7,7 +7,7 @@ use Rattle.recurse.proofs.Turns.{Kept}
 use Rattle.recurse.proofs.visit.+visit.Given as goal
 
 abbrev pub decreases-visit : goal.decreases-visit
-decreases-visit l = sum_of size (state_of l.s).pieces
+decreases-visit l = sum_of size (state_of l.s.now).pieces
 
 abbrev pub invariant-loop-m : goal.invariant-loop-m
 invariant-loop-m l = Kept l.bytes l.setting l.s l.b.least l.b.first l.initial.found l.initial.memo l.initial.desk l.initial.slate l.m l.found l.memo l.desk l.slate

@@ -1,0 +1,10 @@
+-- A kept set stands for x where the slate, which has x's label, says that it has the kept set's label too.
+use Rattle.std.proofs.Common.{sym, ◌∙◌}
+use Rattle.canonize.proofs.Laws.{same_iff}
+use Rattle.desk.proofs.choose.Goals as goal
+
+pub returns-then-is_kept-clause-stands : goal.returns-then-is_kept-clause-stands
+returns-then-is_kept-clause-stands c =
+    let f = c.requires.0.cached.kept c.place-k.result c.place-k.ensures c.if-y-eq0.false in
+    let e = (same_iff _ _).0 (sym c.is_kept.ensures.answer ∙ c.if-is_kept.true) in
+    record { same = sym e ∙ c.requires.3; own = f.0; connected = f.1 }

@@ -1,0 +1,40 @@
+-- The budget, Int, and the memo in turn.
+use Rattle.std.proofs.Common.{refl, sym, ◌∙◌, add-one}
+use Rattle.matches.specs.Table.{pairs}
+use Rattle.state.specs.Inner.Views.{state_of}
+use Rattle.branch.proofs.Branching.{largest_few}
+use Rattle.recurse.proofs.Turns.{ends_spent, stops_int, goes_plain, gated_memo, fragments_of}
+use Rattle.recurse.proofs.visit.enter.Goals as goal
+
+pub returns-then-setting-run-clause-gated : goal.returns-then-setting-run-clause-gated
+returns-then-setting-run-clause-gated c = λ m w. ends_spent _ _ _ _ _ m c.if-setting-run.true
+
+pub int_stops-requires : goal.int_stops-requires
+int_stops-requires c =
+    let p = c.requires in
+    (p.0.pieces, largest_few c.args.bytes.now p.1.formed (state_of c.args.s.now) p.0.fine)
+
+pub returns-then-int_stops-clause-gated : goal.returns-then-int_stops-clause-gated
+returns-then-int_stops-clause-gated c = λ m w.
+    let a = c.args in
+    let stops = sym (c.int_stops.ensures a.bytes.now (pairs a.bytes.now) a.setting _ refl) ∙ c.if-int_stops.true in
+    stops_int a.bytes.now a.setting _ a.s.now a.run m c.if-setting-run.false _ (record { best = refl; states = add-one _ }) stops _ w
+
+pub returns-then-setting-ne1-clause-gated : goal.returns-then-setting-ne1-clause-gated
+returns-then-setting-ne1-clause-gated c = λ m w.
+    let a = c.args in
+    let stops = sym (c.int_stops.ensures a.bytes.now (pairs a.bytes.now) a.setting _ refl) ∙ c.if-int_stops.false in
+    goes_plain a.bytes.now a.setting _ a.s.now a.run m c.if-setting-run.false _ (record { best = refl; states = add-one _ }) stops c.if-setting-ne1.true _ w
+
+pub ask-asked-requires : goal.ask-asked-requires
+ask-asked-requires c =
+    let p = c.requires in
+    (p.1, p.2, fragments_of c.args.bytes.now c.args.s.now p.1.formed p.0, p.0.both)
+
+pub returns-clause-gated : goal.returns-clause-gated
+returns-clause-gated c = λ m w.
+    let a = c.args in
+    let stops = sym (c.int_stops.ensures a.bytes.now (pairs a.bytes.now) a.setting _ refl) ∙ c.if-int_stops.false in
+    let asked = c.ask-asked.ensures.answer m w in
+    rw c.passed.ensures
+    (gated_memo a.bytes.now a.setting _ a.s.now a.run m c.if-setting-run.false _ (record { best = refl; states = add-one _ }) stops _ _ w c.if-setting-ne1.false _ _ _ refl refl asked)
