@@ -7,7 +7,6 @@ ghost use Rattle.assembly.specs.Inner.Parts.{AnswerTold, Admitted, TablesZero};
 
 use crate::answer::{Score, Scored};
 use crate::find;
-use molecule::Verdict;
 use search::Setting;
 use tabulate::build;
 use tabulate::build::Built;
@@ -105,7 +104,7 @@ pub fn score(
         (loan trail.new parts.new pairs.new memo.new desk.new) result }
 {
     match molecule::check(bytes) {
-        Verdict::Accepted => score_accepted(bytes, setting, trail, parts, pairs, memo, desk),
-        Verdict::Refused(fault) => Scored::Record(fault),
+        Ok(()) => score_accepted(bytes, setting, trail, parts, pairs, memo, desk),
+        Err(fault) => Scored::Record(fault),
     }
 }

@@ -9,7 +9,7 @@ ghost use Rattle.canonize.specs.Inner.Slate.{Slate, Labels};
 ghost use Rattle.canonize.specs.Inner.Places.{Wrote};
 ghost use Rattle.canonize.specs.Answer.{bad_set, label_answer, buffer_after, answer_of};
 
-use molecule::{Fault, Verdict, fields, graph};
+use molecule::{Fault, fields, graph};
 
 pub mod compare;
 mod peel;
@@ -75,7 +75,7 @@ pub fn label(bytes: &[u8], set: u64, out: &mut [u8]) -> Labelled
     ensures buffer { out.new ≡ buffer_after bytes.now set out.old }
 {
     match molecule::check(bytes) {
-        Verdict::Accepted => label_accepted(bytes, set, out),
-        Verdict::Refused(fault) => Labelled::Record(fault),
+        Ok(()) => label_accepted(bytes, set, out),
+        Err(fault) => Labelled::Record(fault),
     }
 }

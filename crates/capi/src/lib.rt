@@ -11,7 +11,7 @@ ghost use Rattle.capi.specs.Reply.{asked, turned, reply_of, Answered};
 use assembly::answer::Scored;
 use assembly::{Setting, score};
 use canonize::Labelled;
-use molecule::{Fault, Verdict};
+use molecule::{Fault, Refusal};
 use tabulate::count::Counted;
 
 // Document 01's number, 0 where there is no refusal, and its place, or for a label its length, for matches how many there are.
@@ -37,8 +37,8 @@ fn turned_back(fault: Fault) -> Reply
     ensures { (result.number ≡ number_of fault) × (result.place ≡ place_of fault) }
 {
     Reply {
-        number: molecule::number(fault),
-        place: molecule::place(fault),
+        number: fault.number(),
+        place: fault.place(),
     }
 }
 
@@ -47,8 +47,8 @@ pub fn assembly_check(bytes: &[u8]) -> Reply
     ensures { (result.number ≡ number (check bytes.now)) × (result.place ≡ place (check bytes.now)) }
 {
     match molecule::check(bytes) {
-        Verdict::Accepted => answered(0),
-        Verdict::Refused(fault) => turned_back(fault),
+        Ok(()) => answered(0),
+        Err(fault) => turned_back(fault),
     }
 }
 
@@ -133,7 +133,7 @@ fn replied(scored: Scored) -> ScoreReply
             states: s.states,
             length: s.length,
         },
-        Scored::Record(fault) => row(molecule::number(fault), molecule::place(fault)),
+        Scored::Record(fault) => row(fault.number(), fault.place()),
         Scored::Setting => row(7, 0),
         Scored::Lent => row(8, 0),
         Scored::Parts(k) => row(9, k),

@@ -2,7 +2,7 @@
 use crate::hex;
 use crate::output::Output;
 use crate::words::Words;
-use molecule::Verdict;
+use molecule::Refusal;
 
 // Answers the line with these words behind the command.
 pub fn answer<P: Print>(mut words: Words, out: &mut Output<P>) -> Option<()> {
@@ -12,8 +12,8 @@ pub fn answer<P: Print>(mut words: Words, out: &mut Output<P>) -> Option<()> {
         return None;
     }
     match molecule::check(record) {
-        Verdict::Accepted => out.print("accepted"),
-        Verdict::Refused(fault) => out.refuse(molecule::number(fault), molecule::place(fault)),
+        Ok(()) => out.print("accepted"),
+        Err(fault) => out.refuse(fault.number(), fault.place()),
     }
     Some(())
 }

@@ -6,6 +6,7 @@ use crate::output::Output;
 use crate::words::Words;
 use crate::{hex, numbers};
 use canonize::Labelled;
+use molecule::Refusal;
 
 // Answers the line with these words behind the command.
 pub fn answer<P: Print>(mut words: Words, out: &mut Output<P>) -> Option<()> {
@@ -28,7 +29,7 @@ fn put_label<P: Print>(record: &[u8], set: u64, buffer: &mut [u8], out: &mut Out
             out.print("label ");
             out.print_hex(&buffer[..n]);
         }
-        Labelled::Record(fault) => out.refuse(molecule::number(fault), molecule::place(fault)),
+        Labelled::Record(fault) => out.refuse(fault.number(), fault.place()),
         Labelled::Set => out.refuse(13, 0),
         Labelled::Buffer => out.refuse(14, 0),
     }

@@ -6,6 +6,7 @@ use crate::words::Words;
 use crate::{hex, noise, numbers};
 use assembly::answer::{Score, Scored};
 use assembly::{Setting, score};
+use molecule::Refusal;
 
 // How many elements the trail and each table have. The program has room for as many.
 #[derive(Clone, Copy)]
@@ -114,7 +115,7 @@ fn put_score<P: Print>(bytes: &[u8], setting: Setting, lent: Lent, out: &mut Out
 fn put_scored<P: Print>(scored: Scored, trail: &[u32], out: &mut Output<P>) {
     match scored {
         Scored::Score(s) => put_held(s, trail, out),
-        Scored::Record(fault) => out.refuse(molecule::number(fault), molecule::place(fault)),
+        Scored::Record(fault) => out.refuse(fault.number(), fault.place()),
         Scored::Setting => out.refuse(7, 0),
         Scored::Lent => out.refuse(8, 0),
         Scored::Parts(size) => out.refuse(9, size),

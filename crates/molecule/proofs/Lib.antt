@@ -1,5 +1,6 @@
 -- The theory of the record and its graph.
 pub mod Scans
+pub mod Lowest
 pub mod Lists
 pub mod Perms
 pub mod SetLists

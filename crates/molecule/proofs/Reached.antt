@@ -1,24 +1,27 @@
 -- The atoms reached from atom 0: those that walks end at, and, apart from atom 0, the ends of the bonds reached from it. Assumes nothing.
 use mathlib.Core.Path.{◌≡◌, refl, sym, ap, ◌∙◌, subst}
 use mathlib.Core.Logic.{◌⊎◌, inl, inr, ◌≢◌, ⊎_elim}
-use mathlib.Core.Bool.{true, false}
-use Prim.Native.Nat.{ℕ, zero, suc, ◌-◌, ◌^◌, ◌<◌}
+use mathlib.Core.Bool.{true, false, not}
+use mathlib.Core.List.{List}
+use lib.ListN.{get_or}
+use Prim.Native.Nat.{ℕ, zero, suc, ◌-◌, ◌^◌, ◌≤◌, ◌<◌}
 use native.Mathlib.Omega.{arith}
 use native.Mathlib.Decide.{ℕ_discrete}
 use lib.Bits.{bit_and, bit_or}
 use lib.Pow.{pow_pos}
-use borrow.Author.Tests.{eqb-true, eq-eqb}
-use Rattle.bitset.specs.Bits.{bit, has, Sub, members, unions, set_of}
+use borrow.Author.Tests.{eqb-true, eqb-false, eq-eqb, ne_eqb}
+use Rattle.bitset.specs.Bits.{bit, has, Sub, is_disjoint, members, unions, set_of}
 use Rattle.bitset.proofs.Bools.{two}
 use Rattle.bitset.proofs.Laws.{bit_le, bit-and, bit_one, bit_empty, bit_first, member_lt, or_cases, one_sub, sub_anti, union_one, union_of, size_first}
-use Rattle.bitset.proofs.Members.{sub_of, sub_in, or_left_in, or_right_in, and_in, one_is, some_member, not_empty, set_of_in, set_of_has}
+use Rattle.bitset.proofs.Members.{in_or_out, sub_of, sub_in, or_left_in, or_right_in, and_in, one_is, some_member, not_empty, set_of_in, set_of_has}
 use Rattle.molecule.specs.Lists.{Bytes}
 use Rattle.molecule.specs.Record.{atoms, bonds, end_a, end_b, all_bonds}
-use Rattle.molecule.specs.Touch.{grow, reach, bonds_at, touching}
-use Rattle.molecule.specs.Check.{across, walk, reached}
+use Rattle.molecule.specs.Touch.{grow, reach, bonds_at, bonds_at_words, touching}
+use Rattle.molecule.specs.Check.{across, walk, reached, unreached}
 use Rattle.molecule.specs.Tree.{Formed, Joins, Walk, stay, along}
 use Rattle.molecule.specs.Rounds.{grow_round}
 use Rattle.molecule.proofs.Growing.{round_in, round_has, round_keeps, reach_has, reach_closed, reach_least}
+use Rattle.molecule.proofs.Words.{atoms_at}
 use Rattle.molecule.proofs.Touching.{EndOf, ends_share, at_in, at_has, touch_in, touch_has}
 
 -- b alone where a is in s
@@ -267,3 +270,25 @@ module _ (r : Bytes) where
         go (inr w) =
             let l = (set_of_in (λ j. has (reached r) (end_a r j)) (bonds r) w.0 (sub_in from_zero inside from_zero_inside w.0 w.1)).0 in
             not_empty (bit_and (bonds_at r v) from_zero) w.0 (and_in (bonds_at r v) from_zero w.0 (at_has r v w.0 l w.2) w.1)
+
+    -- ---- row 6's test
+
+    pub zero_passes : unreached r 0 ≡ false
+    unfolding unreached
+    zero_passes = rw reached_zero
+
+    pub unreached_by_bonds : (v : ℕ) → v ≢ 0 → is_disjoint (bonds_at r v) from_zero ≡ unreached r v
+    unfolding unreached
+    unreached_by_bonds v n = go (in_or_out (reached r) v)
+      where
+        go : (bit (reached r) v ≡ 1) ⊎ (bit (reached r) v ≡ 0) → is_disjoint (bonds_at r v) from_zero ≡ not (has (reached r) v)
+        go (inl e) = rw (e, ne_eqb (bit_and (bonds_at r v) from_zero) 0 (reached_meets v n e))
+        go (inr e) = rw e (two_way (two (is_disjoint (bonds_at r v) from_zero)))
+          where
+            two_way : (is_disjoint (bonds_at r v) from_zero ≡ true) ⊎ (is_disjoint (bonds_at r v) from_zero ≡ false) → is_disjoint (bonds_at r v) from_zero ≡ true
+            two_way (inl d) = d
+            two_way (inr d) = absurd (omega (arith, e, meets_reached v (eqb-false (bit_and (bonds_at r v) from_zero) 0 d)))
+
+    -- the same by the words that the engine has of them
+    pub unreached_by_words : (at : List ℕ) (reach : ℕ) (v : ℕ) → at ≡ bonds_at_words r → reach ≡ from_zero → 1 ≤ v → v < atoms r → is_disjoint (get_or at v 0) reach ≡ unreached r v
+    unreached_by_words at reach v e f lo hi = rw (e, f, atoms_at r v (omega (arith, k.sized.few, k.sized.count))) (unreached_by_bonds v (omega arith))

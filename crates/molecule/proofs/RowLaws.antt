@@ -1,17 +1,19 @@
 -- check's answer, row by row: what it is where a row's condition holds, and where it goes on. Assumes nothing.
-use mathlib.Core.Path.{◌≡◌, ◌∙◌}
-use mathlib.Core.Logic.{◌≢◌, ◌⊎◌, inl, inr}
+use mathlib.Core.Path.{◌≡◌, sym, ap, ◌∙◌}
+use mathlib.Core.Logic.{◌⊎◌, inl, inr}
 use mathlib.Core.Bool.{Bool, true, false}
-use Prim.Native.Nat.{ℕ, ◌+◌, ◌*◌, ◌≤◌, ◌<◌}
+use Prim.Native.Nat.{ℕ, ◌≤◌, ◌<◌}
 use native.Mathlib.Omega.{arith}
-use lib.ListN.{length}
 use lib.Dec.{ltb}
-use borrow.Author.Tests.{lt-ltb, le-ltb, eq-eqb, ne_eqb}
+use borrow.Author.Tests.{lt-ltb, le-ltb}
+use Rattle.std.proofs.Common.{None, Some}
+use Rattle.std.proofs.lemmas.Bool.Decides.{nat_tests}
 use Rattle.molecule.specs.Lists.{Bytes, first}
 use Rattle.molecule.specs.Record.{atoms, bonds}
 use Rattle.molecule.specs.Check.{Answer, accepted, refused, row, row_at, bad_length, bad_counts, bad_element, bad_code, bad_ends, unreached, check}
 use Rattle.molecule.specs.Tree.{RightCounts, Formed}
-use Rattle.molecule.proofs.Scans.{first_none}
+use Rattle.molecule.specs.Inner.Finding.{IsLowest}
+use Rattle.molecule.proofs.Scans.{first_is, first_past}
 use Rattle.molecule.proofs.Accepted.{ends_right}
 
 pub row_hit : (k p : ℕ) (fault : Bool) (next : Answer) → fault ≡ true → row k p fault next ≡ refused k p
@@ -30,7 +32,16 @@ pub row_at_pass : (k : ℕ) (fault : ℕ → Bool) (n : ℕ) (next : Answer) →
 unfolding row_at row
 row_at_pass k fault n next h = rw (le-ltb (first fault n) n h)
 
-module _ (r : Bytes) where
+-- the same by what a scan answers
+row_at_some : (k : ℕ) (fault : ℕ → Bool) (n : ℕ) (next : Answer) (i : ℕ) → IsLowest fault n (Some i) → row_at k fault n next ≡ refused k i
+row_at_some k fault n next i h =
+    let e : first fault n ≡ i = first_is fault n i h.0 h.1 h.2 in
+    row_at_hit k fault n next (omega arith) ∙ ap (refused k) e
+
+row_at_none : (k : ℕ) (fault : ℕ → Bool) (n : ℕ) (next : Answer) → IsLowest fault n None → row_at k fault n next ≡ next
+row_at_none k fault n next h = row_at_pass k fault n next (first_past fault n h)
+
+module _ (r : Bytes) (s : RightCounts r) where
   -- the rows from 6, from 5 and so on
   abbrev from6 : Answer
   from6 = row_at 6 (unreached r) (atoms r) accepted
@@ -44,47 +55,39 @@ module _ (r : Bytes) where
   abbrev from3 : Answer
   from3 = row_at 3 (bad_element r) (atoms r) from4
 
-  pub short : length r < 2 → check r ≡ refused 1 (length r)
-  unfolding check bad_length row
-  short h = rw (lt-ltb (length r) 2 h)
+  past_2 : check r ≡ from3
+  unfolding check bad_length bad_counts row
+  past_2 = let t = s in grind (arith, nat_tests)
 
-  pub wrong_length : 2 ≤ length r → length r ≢ 2 + atoms r + 3 * bonds r → check r ≡ refused 1 (length r)
-  unfolding check bad_length row
-  wrong_length h n = rw (le-ltb (length r) 2 h, ne_eqb (length r) (2 + atoms r + 3 * bonds r) n)
+  pub row_3 : (v : ℕ) → IsLowest (bad_element r) (atoms r) (Some v) → refused 3 v ≡ check r
+  row_3 v h = sym (past_2 ∙ row_at_some 3 (bad_element r) (atoms r) from4 v h)
 
-  module _ (long : length r ≡ 2 + atoms r + 3 * bonds r) where
-    right_length : check r ≡ row 2 0 (bad_counts r) from3
-    unfolding check bad_length row
-    right_length = rw (le-ltb (length r) 2 (omega arith), eq-eqb (length r) (2 + atoms r + 3 * bonds r) long)
+  module _ (elements : IsLowest (bad_element r) (atoms r) None) where
+    past_3 : check r ≡ from4
+    past_3 = past_2 ∙ row_at_none 3 (bad_element r) (atoms r) from4 elements
 
-    pub no_bond : bonds r ≡ 0 → check r ≡ refused 2 0
-    unfolding bad_counts row
-    no_bond e = right_length ∙ rw (eq-eqb (bonds r) 0 e)
+    pub row_4 : (i : ℕ) → IsLowest (bad_code r) (bonds r) (Some i) → refused 4 i ≡ check r
+    row_4 i h = sym (past_3 ∙ row_at_some 4 (bad_code r) (bonds r) from5 i h)
 
-    pub many_bonds : bonds r ≢ 0 → 64 < bonds r → check r ≡ refused 2 0
-    unfolding bad_counts row
-    many_bonds n h = right_length ∙ rw (ne_eqb (bonds r) 0 n, lt-ltb 64 (bonds r) h)
+    module _ (codes : IsLowest (bad_code r) (bonds r) None) where
+      past_4 : check r ≡ from5
+      past_4 = past_3 ∙ row_at_none 4 (bad_code r) (bonds r) from5 codes
 
-    pub wrong_atoms : bonds r ≢ 0 → bonds r ≤ 64 → atoms r ≢ bonds r + 1 → check r ≡ refused 2 0
-    unfolding bad_counts row
-    wrong_atoms n h q = right_length ∙ rw (ne_eqb (bonds r) 0 n, le-ltb 64 (bonds r) h, ne_eqb (atoms r) (bonds r + 1) q)
+      pub row_5 : (i : ℕ) → IsLowest (bad_ends r) (bonds r) (Some i) → refused 5 i ≡ check r
+      row_5 i h = sym (past_4 ∙ row_at_some 5 (bad_ends r) (bonds r) from6 i h)
 
-  module _ (s : RightCounts r) where
-    pub past_2 : check r ≡ from3
-    unfolding bad_counts row
-    past_2 = right_length s.long ∙ rw (ne_eqb (bonds r) 0 (omega (arith, s.some)), le-ltb 64 (bonds r) s.few, eq-eqb (atoms r) (bonds r + 1) s.count)
+      module _ (ends : IsLowest (bad_ends r) (bonds r) None) where
+        past_5 : check r ≡ from6
+        past_5 = past_4 ∙ row_at_none 5 (bad_ends r) (bonds r) from6 ends
 
-    pub past_3 : atoms r ≤ first (bad_element r) (atoms r) → check r ≡ from4
-    past_3 h = past_2 ∙ row_at_pass 3 (bad_element r) (atoms r) from4 h
+        pub row_6 : (v : ℕ) → IsLowest (unreached r) (atoms r) (Some v) → refused 6 v ≡ check r
+        row_6 v h = sym (past_5 ∙ row_at_some 6 (unreached r) (atoms r) accepted v h)
 
-    pub past_4 : atoms r ≤ first (bad_element r) (atoms r) → bonds r ≤ first (bad_code r) (bonds r) → check r ≡ from5
-    past_4 h k = past_3 h ∙ row_at_pass 4 (bad_code r) (bonds r) from5 k
+        pub no_row : IsLowest (unreached r) (atoms r) None → accepted ≡ check r
+        no_row h = sym (past_5 ∙ row_at_none 6 (unreached r) (atoms r) accepted h)
 
-    pub past_5 : atoms r ≤ first (bad_element r) (atoms r) → bonds r ≤ first (bad_code r) (bonds r) → bonds r ≤ first (bad_ends r) (bonds r) → check r ≡ from6
-    past_5 h k l = past_4 h k ∙ row_at_pass 5 (bad_ends r) (bonds r) from6 l
-
-    pub formed : bonds r ≤ first (bad_ends r) (bonds r) → Formed r
-    formed l = record { sized = s; ends = λ i h. ends_right r i (first_none (bad_ends r) (bonds r) i l h) }
+  pub formed : IsLowest (bad_ends r) (bonds r) None → Formed r
+  formed ends = record { sized = s; ends = λ i h. ends_right r i (ends i h) }
 
 -- a row turns back with its own number, or leaves it to what comes after it
 pub row_back : (k p : ℕ) (fault : Bool) (next : Answer) (j q : ℕ) → row k p fault next ≡ refused j q → (k ≡ j) ⊎ (next ≡ refused j q)

@@ -9,16 +9,16 @@ use native.Mathlib.Nat.{zero-add}
 use native.Mathlib.Decide.{ℕ_discrete}
 use lib.Bits.{bit_or}
 use lib.Dec.{ltb, eqb}
-use lib.ListN.{length, get_or, set, length-set}
+use lib.ListN.{length, replicate, get_or, set, length-set}
 use lib.Seq.{ext_get_or, get_or-set_same, get_or-set_other}
 use borrow.Author.Tests.{ltb-true, ltb-false, eq-eqb, ne_eqb}
 use Rattle.bitset.specs.Bits.{set_of}
 use Rattle.bitset.proofs.Bools.{two, or_left, or_right}
-use Rattle.bitset.proofs.Members.{set_of_next, set_of_skip}
+use Rattle.bitset.proofs.Members.{set_of_none, set_of_next, set_of_skip}
 use Rattle.molecule.specs.Lists.{Bytes}
 use Rattle.molecule.specs.Record.{bonds, end_a, end_b}
 use Rattle.molecule.specs.Touch.{is_end, bonds_at, touching, bonds_at_words, touching_words}
-use Rattle.molecule.proofs.Lists.{length_list, list_at}
+use Rattle.molecule.proofs.Lists.{length_list, list_at, zeros_at}
 
 module _ (r : Bytes) where
   -- ---- the bonds at each atom
@@ -27,14 +27,17 @@ module _ (r : Bytes) where
   unfolding bonds_at_words
   atoms_at v h = list_at (bonds_at r) 0 65 v 0 h ∙ ap (bonds_at r) (zero-add v)
 
-  pub atoms_are : (l : List ℕ) → length l ≡ 65 → ((v : ℕ) → v < 65 → get_or l v 0 ≡ bonds_at r v) → l ≡ bonds_at_words r
-  unfolding bonds_at_words
-  atoms_are l e h = ext_get_or 0 l (bonds_at_words r) (e ∙ sym (length_list (bonds_at r) 0 65)) (λ i k. h i (omega arith) ∙ sym (atoms_at i (omega arith)))
-
   -- the list l, of 65 words, has the first i bonds
   pub record AtomsUpTo (i : ℕ) (l : List ℕ) : Type 0 where
     pub long : length l ≡ 65
     pub each : (v : ℕ) → v < 65 → get_or l v 0 ≡ set_of (is_end r v) i
+
+  pub atoms_start : AtomsUpTo 0 (replicate 65 0)
+  atoms_start = record { long = refl; each = λ v h. zeros_at 65 v ∙ sym (set_of_none (is_end r v)) }
+
+  pub atoms_are : (l : List ℕ) → AtomsUpTo (bonds r) l → l ≡ bonds_at_words r
+  unfolding bonds_at_words bonds_at
+  atoms_are l w = ext_get_or 0 l (bonds_at_words r) (w.long ∙ sym (length_list (bonds_at r) 0 65)) (λ v h. w.each v (omega (arith, w.long)) ∙ sym (atoms_at v (omega (arith, w.long))))
 
   -- bond i is put at its two ends
   module _ (i : ℕ) (l : List ℕ) (w : AtomsUpTo i l) (ha : end_a r i < 65) (hb : end_b r i < 65) (apart : end_a r i ≢ end_b r i) where
@@ -87,6 +90,9 @@ module _ (r : Bytes) where
     pub long : length l ≡ 64
     pub each : (j : ℕ) → j < i → get_or l j 0 ≡ touching r j
     pub rest : (j : ℕ) → i ≤ j → get_or l j 0 ≡ 0
+
+  pub bonds_start : BondsUpTo 0 (replicate 64 0)
+  bonds_start = record { long = refl; each = λ j h. absurd (omega arith); rest = λ j h. zeros_at 64 j }
 
   pub bonds_next : (i : ℕ) (l : List ℕ) (x : ℕ) → BondsUpTo i l → i < 64 → x ≡ touching r i → BondsUpTo (i + 1) (set l i x)
   bonds_next i l x w h e = record {

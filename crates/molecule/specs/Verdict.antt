@@ -1,10 +1,8 @@
 -- What check's enum says in document 01's numbers and places.
-use Rattle.std.specs.Prelude.{ℕ}
+use Rattle.std.specs.Prelude.{ℕ, Result, Ok, Err}
 use Rattle.molecule.specs.Check.{Answer, accepted, refused}
 use Rattle.molecule.specs.declared.Fault.{Fault}
 use Rattle.molecule.specs.declared.Fault.TheVariants.{Length, Counts, Element, Code, Ends, Unreached}
-use Rattle.molecule.specs.declared.Verdict.{Verdict}
-use Rattle.molecule.specs.declared.Verdict.TheVariants.{Accepted, Refused}
 
 -- the row's number
 abbrev pub number_of : Fault → ℕ
@@ -24,7 +22,7 @@ place_of (Code i) = i
 place_of (Ends i) = i
 place_of (Unreached v) = v
 
--- the answer of document 01 that a verdict is
-abbrev pub answer_of : Verdict → Answer
-answer_of Accepted = accepted
-answer_of (Refused f) = refused (number_of f) (place_of f)
+-- the answer of document 01 that check's result is
+abbrev pub answer_of : Result (Unit {0}) Fault → Answer
+answer_of (Ok _) = accepted
+answer_of (Err f) = refused (number_of f) (place_of f)

@@ -3,19 +3,12 @@ ghost use Rattle.std.specs.Prelude.{◌≡◌, ◌≤◌, ◌<◌, length};
 ghost use Rattle.molecule.specs.Record.{atoms, bonds, element, end_a, end_b, code};
 ghost use Rattle.molecule.specs.Tree.{RightCounts};
 
-// A byte as a number of atoms or bonds.
-fn wide(x: u8) -> usize
-    ensures { (result ≡ x) × (result < 256) }
-{
-    x as usize
-}
-
 // The number of atoms.
 pub fn atoms(bytes: &[u8]) -> usize
     requires { 2 ≤ length bytes.now }
     ensures { (result ≡ atoms bytes.now) × (result < 256) }
 {
-    wide(bytes[0])
+    usize::from(bytes[0])
 }
 
 // The number of bonds.
@@ -23,7 +16,7 @@ pub fn bonds(bytes: &[u8]) -> usize
     requires { 2 ≤ length bytes.now }
     ensures { (result ≡ bonds bytes.now) × (result < 256) }
 {
-    wide(bytes[1])
+    usize::from(bytes[1])
 }
 
 // The element code of atom v.
@@ -34,12 +27,24 @@ pub fn element(bytes: &[u8], v: usize) -> u8
     bytes[2 + v]
 }
 
+// The two ends of bond i, in the order written.
+pub fn ends(bytes: &[u8], i: usize) -> (usize, usize)
+    requires { RightCounts bytes.now × (i < bonds bytes.now) }
+    ensures { (result.0 ≡ end_a bytes.now i) × (result.1 ≡ end_b bytes.now i) }
+{
+    let a = atoms(bytes);
+    (
+        usize::from(bytes[2 + a + 2 * i]),
+        usize::from(bytes[3 + a + 2 * i]),
+    )
+}
+
 // The first end of bond i.
 pub fn end_a(bytes: &[u8], i: usize) -> usize
     requires { RightCounts bytes.now × (i < bonds bytes.now) }
     ensures { result ≡ end_a bytes.now i }
 {
-    wide(bytes[2 + atoms(bytes) + 2 * i])
+    ends(bytes, i).0
 }
 
 // The second end of bond i.
@@ -47,7 +52,7 @@ pub fn end_b(bytes: &[u8], i: usize) -> usize
     requires { RightCounts bytes.now × (i < bonds bytes.now) }
     ensures { result ≡ end_b bytes.now i }
 {
-    wide(bytes[3 + atoms(bytes) + 2 * i])
+    ends(bytes, i).1
 }
 
 // The bond code of bond i.

@@ -14,16 +14,12 @@ pub fn bonds_at(bytes: &[u8]) -> [u64; 65]
     requires { Formed bytes.now }
     ensures { result ≡ bonds_at_words bytes.now }
 {
-    let n = fields::bonds(bytes);
     let mut at = [0u64; 65];
-    let mut i = 0;
-    while i < n {
-        let u = fields::end_a(bytes, i);
-        let v = fields::end_b(bytes, i);
+    for i in 0..fields::bonds(bytes) {
+        let (u, v) = fields::ends(bytes, i);
         let b = bitset::single(i as u32);
         at[u] = bitset::union(at[u], b);
         at[v] = bitset::union(at[v], b);
-        i += 1;
     }
     at
 }
@@ -33,8 +29,7 @@ pub fn edge_neighbors(bytes: &[u8], at: &[u64; 65], i: usize) -> u64
     requires { Formed bytes.now × (at.now ≡ bonds_at_words bytes.now) × (i < bonds bytes.now) }
     ensures { result ≡ touching bytes.now i }
 {
-    let u = fields::end_a(bytes, i);
-    let v = fields::end_b(bytes, i);
+    let (u, v) = fields::ends(bytes, i);
     bitset::difference(bitset::union(at[u], at[v]), bitset::single(i as u32))
 }
 
@@ -43,12 +38,9 @@ pub fn touching_from(bytes: &[u8], at: &[u64; 65]) -> [u64; 64]
     requires { Formed bytes.now × (at.now ≡ bonds_at_words bytes.now) }
     ensures { result ≡ touching_words bytes.now }
 {
-    let n = fields::bonds(bytes);
     let mut touch = [0u64; 64];
-    let mut i = 0;
-    while i < n {
+    for i in 0..fields::bonds(bytes) {
         touch[i] = edge_neighbors(bytes, at, i);
-        i += 1;
     }
     touch
 }

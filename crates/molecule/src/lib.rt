@@ -1,15 +1,31 @@
 #![tactic(auto)]
 // Molecules without rings: the record of document 01, check, and the graph of a record's bonds.
-ghost use Rattle.std.specs.Prelude.{◌≡◌};
+ghost use Rattle.std.specs.Prelude.{◌≡◌, ℕ, OnOk, OnErr};
+ghost use Rattle.molecule.specs.Tree.{RightCounts};
 ghost use Rattle.molecule.specs.Check.{check};
-ghost use Rattle.molecule.specs.Verdict.{answer_of, number_of, place_of};
+ghost use Rattle.molecule.specs.Verdict.{answer_of};
 
 pub mod fields;
 pub mod graph;
 mod rows;
 
+// Why something is turned back, in document 01's terms.
+pub trait Refusal: Copy {
+    ghost number_of: { Self → ℕ };
+
+    ghost place_of: { Self → ℕ };
+
+    // The number of the row.
+    fn number(self) -> u32
+        ensures { result ≡ number_of self };
+
+    // The place in it.
+    fn place(self) -> u64
+        ensures { result ≡ place_of self };
+}
+
 // Why a record is turned back: rows 1 to 6 of document 01, each with its place.
-#[derive(Clone, Copy)]
+#[derive(Clone, Copy, Debug, PartialEq, Eq)]
 pub enum Fault {
     Length(usize),
     Counts,
@@ -19,78 +35,72 @@ pub enum Fault {
     Unreached(usize),
 }
 
-// What check answers.
-#[derive(Clone, Copy)]
-pub enum Verdict {
-    Accepted,
-    Refused(Fault),
-}
+impl Refusal for Fault {
+    ghost use Rattle.molecule.specs.Verdict as verdict;
 
-// Document 01's number of the row.
-pub fn number(f: Fault) -> u32
-    ensures { result ≡ number_of f }
-{
-    match f {
-        Fault::Length(_) => 1,
-        Fault::Counts => 2,
-        Fault::Element(_) => 3,
-        Fault::Code(_) => 4,
-        Fault::Ends(_) => 5,
-        Fault::Unreached(_) => 6,
+    ghost number_of = { verdict.number_of };
+
+    ghost place_of = { verdict.place_of };
+
+    fn number(self) -> u32 {
+        match self {
+            Fault::Length(_) => 1,
+            Fault::Counts => 2,
+            Fault::Element(_) => 3,
+            Fault::Code(_) => 4,
+            Fault::Ends(_) => 5,
+            Fault::Unreached(_) => 6,
+        }
+    }
+
+    fn place(self) -> u64 {
+        match self {
+            Fault::Counts => 0,
+            Fault::Length(p)
+            | Fault::Element(p)
+            | Fault::Code(p)
+            | Fault::Ends(p)
+            | Fault::Unreached(p) => p as u64,
+        }
     }
 }
 
-// Document 01's place.
-pub fn place(f: Fault) -> u64
-    ensures { result ≡ place_of f }
-{
-    match f {
-        Fault::Length(l) => l as u64,
-        Fault::Counts => 0,
-        Fault::Element(v) => v as u64,
-        Fault::Code(i) => i as u64,
-        Fault::Ends(i) => i as u64,
-        Fault::Unreached(v) => v as u64,
-    }
-}
-
-// Whether the bytes are a record that is answered: the first of rows 1 to 6 whose condition holds, or accepted.
-pub fn check(bytes: &[u8]) -> Verdict
-    ensures { answer_of result ≡ check bytes.now }
+// Rows 1 and 2: the length and the counts.
+fn check_counts(bytes: &[u8]) -> Result<(), Fault>
+    ensures ok { OnOk result (RightCounts bytes.now) }
+    ensures err { OnErr result (answer_of result ≡ check bytes.now) }
 {
     let length = bytes.len();
     if length < 2 {
-        return Verdict::Refused(Fault::Length(length));
+        return Err(Fault::Length(length));
     }
     let a = fields::atoms(bytes);
     let n = fields::bonds(bytes);
     if length != 2 + a + 3 * n {
-        return Verdict::Refused(Fault::Length(length));
+        return Err(Fault::Length(length));
     }
-    if n == 0 {
-        return Verdict::Refused(Fault::Counts);
+    if n == 0 || 64 < n || a != n + 1 {
+        return Err(Fault::Counts);
     }
-    if 64 < n {
-        return Verdict::Refused(Fault::Counts);
+    Ok(())
+}
+
+// Whether the bytes are a record that is answered: the first of rows 1 to 6 whose condition holds, or accepted.
+pub fn check(bytes: &[u8]) -> Result<(), Fault>
+    ensures { answer_of result ≡ check bytes.now }
+{
+    check_counts(bytes)?;
+    if let Some(v) = rows::first_bad_element(bytes) {
+        return Err(Fault::Element(v));
     }
-    if a != n + 1 {
-        return Verdict::Refused(Fault::Counts);
+    if let Some(i) = rows::first_bad_code(bytes) {
+        return Err(Fault::Code(i));
     }
-    let element = rows::first_bad_element(bytes);
-    if element < a {
-        return Verdict::Refused(Fault::Element(element));
+    if let Some(i) = rows::first_bad_ends(bytes) {
+        return Err(Fault::Ends(i));
     }
-    let code = rows::first_bad_code(bytes);
-    if code < n {
-        return Verdict::Refused(Fault::Code(code));
+    if let Some(v) = rows::first_unreached(bytes) {
+        return Err(Fault::Unreached(v));
     }
-    let ends = rows::first_bad_ends(bytes);
-    if ends < n {
-        return Verdict::Refused(Fault::Ends(ends));
-    }
-    let unreached = rows::first_unreached(bytes);
-    if unreached < a {
-        return Verdict::Refused(Fault::Unreached(unreached));
-    }
-    Verdict::Accepted
+    Ok(())
 }

@@ -1,107 +1,72 @@
-// The scans of rows 3 to 6: each answers the lowest number at fault, or how many there are.
-ghost use Rattle.std.specs.Prelude.{◌≡◌, ◌+◌, ◌≤◌, length};
-ghost use Rattle.molecule.specs.Lists.{first};
+// The scans of rows 3 to 6: each answers the lowest number at fault, where there is one.
+ghost use Rattle.std.specs.Prelude.{◌≡◌};
 ghost use Rattle.molecule.specs.Record.{atoms, bonds};
-ghost use Rattle.molecule.specs.Check.{wrong_ends, bad_element, bad_code, bad_ends, unreached};
-ghost use Rattle.molecule.specs.Inner.Codes.{wrong_beyond, bad_beyond};
+ghost use Rattle.molecule.specs.Check.{wrong_element, wrong_code, wrong_ends, bad_element, bad_code, bad_ends, unreached};
+ghost use Rattle.molecule.specs.Inner.Finding.{IsLowest};
 ghost use Rattle.molecule.specs.Tree.{RightCounts, Formed};
 
 use crate::{fields, graph};
 
-// A code that is 0 or above most.
-fn wrong_beyond(c: u8, most: u8) -> bool
-    ensures { result ≡ wrong_beyond most c }
+// An element code that row 3 turns back.
+fn wrong_element(e: u8) -> bool
+    ensures { result ≡ wrong_element e }
 {
-    c == 0 || most < c
+    e == 0 || e == 255
+}
+
+// A bond code that row 4 turns back.
+fn wrong_code(c: u8) -> bool
+    ensures { result ≡ wrong_code c }
+{
+    c == 0 || 3 < c
 }
 
 // The ends of a bond, of a atoms, that row 5 turns back.
 fn wrong_ends(a: usize, u: usize, v: usize) -> bool
     ensures { result ≡ wrong_ends a u v }
 {
-    if a <= u {
-        return true;
-    }
-    if a <= v {
-        return true;
-    }
-    u == v
-}
-
-// Of n codes from a place on the number of the first that is 0 or above most, or n.
-fn first_bad(bytes: &[u8], from: usize, n: usize, most: u8) -> usize
-    requires { from + n ≤ length bytes.now }
-    ensures { result ≡ first (bad_beyond bytes.now from most) n }
-{
-    let mut i = 0;
-    let bad = loop {
-        if i == n {
-            break n;
-        }
-        if wrong_beyond(bytes[from + i], most) {
-            break i;
-        }
-        i += 1;
-    };
-    bad
+    a <= u || a <= v || u == v
 }
 
 // Row 3: the lowest atom with a wrong element code.
-pub fn first_bad_element(bytes: &[u8]) -> usize
+pub fn first_bad_element(bytes: &[u8]) -> Option<usize>
     requires { RightCounts bytes.now }
-    ensures { result ≡ first (bad_element bytes.now) (atoms bytes.now) }
+    ensures { IsLowest (bad_element bytes.now) (atoms bytes.now) result }
 {
-    first_bad(bytes, 2, fields::atoms(bytes), 254)
+    let a = fields::atoms(bytes);
+    bytes[2..2 + a].iter().position(|e| wrong_element(*e))
 }
 
 // Row 4: the lowest bond with a wrong bond code.
-pub fn first_bad_code(bytes: &[u8]) -> usize
+pub fn first_bad_code(bytes: &[u8]) -> Option<usize>
     requires { RightCounts bytes.now }
-    ensures { result ≡ first (bad_code bytes.now) (bonds bytes.now) }
+    ensures { IsLowest (bad_code bytes.now) (bonds bytes.now) result }
 {
     let n = fields::bonds(bytes);
-    first_bad(bytes, 2 + fields::atoms(bytes) + 2 * n, n, 3)
+    let from = 2 + fields::atoms(bytes) + 2 * n;
+    bytes[from..from + n].iter().position(|c| wrong_code(*c))
 }
 
 // Row 5: the lowest bond with wrong ends.
-pub fn first_bad_ends(bytes: &[u8]) -> usize
+pub fn first_bad_ends(bytes: &[u8]) -> Option<usize>
     requires { RightCounts bytes.now }
-    ensures { result ≡ first (bad_ends bytes.now) (bonds bytes.now) }
+    ensures { IsLowest (bad_ends bytes.now) (bonds bytes.now) result }
 {
     let a = fields::atoms(bytes);
-    let n = fields::bonds(bytes);
-    let mut i = 0;
-    let bad = loop {
-        if i == n {
-            break n;
-        }
-        if wrong_ends(a, fields::end_a(bytes, i), fields::end_b(bytes, i)) {
-            break i;
-        }
-        i += 1;
-    };
-    bad
+    (0..fields::bonds(bytes)).find(|i| {
+        let (u, v) = fields::ends(bytes, *i);
+        wrong_ends(a, u, v)
+    })
 }
 
 // Row 6: the lowest atom that is not reached from atom 0: none of its bonds is reached from the bonds of atom 0.
-pub fn first_unreached(bytes: &[u8]) -> usize
+pub fn first_unreached(bytes: &[u8]) -> Option<usize>
     requires { Formed bytes.now }
-    ensures { result ≡ first (unreached bytes.now) (atoms bytes.now) }
+    ensures { IsLowest (unreached bytes.now) (atoms bytes.now) result }
 {
-    let a = fields::atoms(bytes);
-    let n = fields::bonds(bytes);
     let at = graph::bonds_at(bytes);
     let touch = graph::touching_from(bytes, &at);
-    let reached = graph::reach(&touch, bitset::first_n(n as u32), at[0]);
-    let mut v = 1;
-    let bad = loop {
-        if v == a {
-            break a;
-        }
-        if bitset::is_disjoint(at[v], reached) {
-            break v;
-        }
-        v += 1;
-    };
-    bad
+    let all = bitset::first_n(fields::bonds(bytes) as u32);
+    let reached = graph::reach(&touch, all, at[0]);
+    (1..fields::atoms(bytes)).find(|v| bitset::is_disjoint(at[*v], reached))
 }

@@ -5,7 +5,7 @@ ghost use Rattle.tabulate.specs.Counted.{count_answer, table_after, answer_of};
 
 use crate::build;
 use crate::build::Built;
-use molecule::{Fault, Verdict};
+use molecule::Fault;
 
 // What count answers: the matches there are; why the record is turned back; the size at which parts has no room; or the matches there are where
 // pairs has no room for them.
@@ -41,7 +41,7 @@ pub fn count(bytes: &[u8], parts: &mut [u64], pairs: &mut [u64]) -> Counted
     ensures pairs { pairs.new ≡ table_after bytes.now pairs.old }
 {
     match molecule::check(bytes) {
-        Verdict::Accepted => count_accepted(bytes, parts, pairs),
-        Verdict::Refused(fault) => Counted::Record(fault),
+        Ok(()) => count_accepted(bytes, parts, pairs),
+        Err(fault) => Counted::Record(fault),
     }
 }
