@@ -2,7 +2,6 @@
 use crate::hex;
 use crate::output::Output;
 use crate::words::Words;
-use molecule::Refusal;
 
 // Answers the line with these words behind the command.
 pub fn answer<P: Print>(mut words: Words, out: &mut Output<P>) -> Option<()> {
@@ -13,7 +12,7 @@ pub fn answer<P: Print>(mut words: Words, out: &mut Output<P>) -> Option<()> {
     }
     match molecule::check(record) {
         Ok(()) => out.print("accepted"),
-        Err(fault) => out.refuse(fault.number(), fault.place()),
+        Err(fault) => out.refuse(fault),
     }
     Some(())
 }

@@ -1,12 +1,7 @@
 // The command `label HEX SETHEX BUFLEN`: the label of a set of bonds, asked with a buffer of so many bytes.
-ghost use Rattle.std.specs.Prelude.{◌≡◌, length};
-ghost use Rattle.canonize.specs.Answer.{label_answer, answer_of};
-
 use crate::output::Output;
 use crate::words::Words;
 use crate::{hex, numbers};
-use canonize::Labelled;
-use molecule::Refusal;
 
 // Answers the line with these words behind the command.
 pub fn answer<P: Print>(mut words: Words, out: &mut Output<P>) -> Option<()> {
@@ -25,12 +20,10 @@ pub fn answer<P: Print>(mut words: Words, out: &mut Output<P>) -> Option<()> {
 // Puts `label HEX` or `refused NUMBER PLACE`.
 fn put_label<P: Print>(record: &[u8], set: u64, buffer: &mut [u8], out: &mut Output<P>) {
     match canonize::label(record, set, buffer) {
-        Labelled::Length(n) => {
+        Ok(n) => {
             out.print("label ");
             out.print_hex(&buffer[..n]);
         }
-        Labelled::Record(fault) => out.refuse(fault.number(), fault.place()),
-        Labelled::Set => out.refuse(13, 0),
-        Labelled::Buffer => out.refuse(14, 0),
+        Err(refusal) => out.refuse(refusal),
     }
 }

@@ -5,7 +5,6 @@ ghost use Rattle.tabulate.specs.Counted.{count_answer, answer_of};
 use crate::output::Output;
 use crate::words::Words;
 use crate::{hex, noise, numbers};
-use molecule::Refusal;
 use tabulate::count;
 use tabulate::count::Counted;
 
@@ -25,9 +24,9 @@ pub fn answer<P: Print>(mut words: Words, out: &mut Output<P>) -> Option<()> {
     let lengths = table_lengths(words)?;
     match count_with(record, lengths) {
         Counted::Count(n) => out.print(format_args!("matches {n}")),
-        Counted::Record(fault) => out.refuse(fault.number(), fault.place()),
-        Counted::Parts(size) => out.refuse(9, size),
-        Counted::Pairs(n) => out.refuse(10, n),
+        Counted::Record(fault) => out.refuse(fault),
+        Counted::Parts(size) => out.refuse_row(9, size),
+        Counted::Pairs(n) => out.refuse_row(10, n),
     }
     Some(())
 }

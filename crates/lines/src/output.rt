@@ -1,6 +1,7 @@
 // The answers on their way out: they are collected, and written when the buffer is full.
 ghost use Rattle.std.specs.Prelude.{◌≡◌, ◌≤◌};
 
+use molecule::Refusal;
 use std::fmt;
 use std::fmt::{Display, Write};
 
@@ -53,7 +54,14 @@ impl<'a, P: Print> Output<'a, P> {
     }
 
     // Puts `refused NUMBER PLACE`.
-    pub fn refuse(&mut self, number: u32, place: u64) {
+    pub fn refuse<R: Refusal>(&mut self, refusal: R) {
+        let number = refusal.number();
+        let place = refusal.place();
+        self.print(format_args!("refused {number} {place}"));
+    }
+
+    // Puts `refused NUMBER PLACE`.
+    pub fn refuse_row(&mut self, number: u32, place: u64) {
         self.print(format_args!("refused {number} {place}"));
     }
 }

@@ -6,7 +6,6 @@ use crate::words::Words;
 use crate::{hex, noise, numbers};
 use assembly::answer::{Score, Scored};
 use assembly::{Setting, score};
-use molecule::Refusal;
 
 // How many elements the trail and each table have. The program has room for as many.
 #[derive(Clone, Copy)]
@@ -115,13 +114,13 @@ fn put_score<P: Print>(bytes: &[u8], setting: Setting, lent: Lent, out: &mut Out
 fn put_scored<P: Print>(scored: Scored, trail: &[u32], out: &mut Output<P>) {
     match scored {
         Scored::Score(s) => put_held(s, trail, out),
-        Scored::Record(fault) => out.refuse(fault.number(), fault.place()),
-        Scored::Setting => out.refuse(7, 0),
-        Scored::Lent => out.refuse(8, 0),
-        Scored::Parts(size) => out.refuse(9, size),
-        Scored::Pairs(n) => out.refuse(10, n),
-        Scored::Budget(n) => out.refuse(11, n),
-        Scored::Memo(n) => out.refuse(12, n),
+        Scored::Record(fault) => out.refuse(fault),
+        Scored::Setting => out.refuse_row(7, 0),
+        Scored::Lent => out.refuse_row(8, 0),
+        Scored::Parts(size) => out.refuse_row(9, size),
+        Scored::Pairs(n) => out.refuse_row(10, n),
+        Scored::Budget(n) => out.refuse_row(11, n),
+        Scored::Memo(n) => out.refuse_row(12, n),
     }
 }
 

@@ -31,7 +31,7 @@ module _ (r : Bytes) (s : ℕ) (buffer : Bytes) (n : ℕ) (e : labelled n ≡ la
   label_inside = by_record (check r) refl
 
 pub slice_bounds-print_hex-end : goal.slice_bounds-print_hex-end
-slice_bounds-print_hex-end g c = omega (arith, label_inside _ _ _ _ c.in-Length.ensures.answer)
+slice_bounds-print_hex-end g c = omega (arith, label_inside _ _ _ _ c.in-Ok.ensures.answer)
 
-pub slice_bounds-print_hex-end-in-Length : goal.slice_bounds-print_hex-end-in-Length
-slice_bounds-print_hex-end-in-Length g c = simp length-take (omega (arith, label_inside _ _ _ _ c.in-Length.ensures.answer))
+pub slice_bounds-print_hex-end-in-Ok : goal.slice_bounds-print_hex-end-in-Ok
+slice_bounds-print_hex-end-in-Ok g c = simp length-take (omega (arith, label_inside _ _ _ _ c.in-Ok.ensures.answer))
