@@ -1,13 +1,13 @@
 -- Document 01, 'Answers and turned-back records': rows 1 to 6, 13 and 14, and label's whole answer.
-use Rattle.std.specs.Prelude.{Bool, not, ◌||◌, ◌++◌, ℕ, ◌^◌, length, drop, ltb, leb, eqb}
+use Rattle.std.specs.Prelude.{Bool, Result, Ok, Err, not, ◌||◌, ◌++◌, ℕ, ◌^◌, length, drop, ltb, leb, eqb}
 use Rattle.molecule.specs.Lists.{Bytes}
 use Rattle.molecule.specs.Record.{bonds}
 use Rattle.molecule.specs.Touch.{connected}
 use Rattle.molecule.specs.Check.{Answer, accepted, refused, row, check}
 use Rattle.molecule.specs.Verdict.{number_of, place_of}
 use Rattle.canonize.specs.Label.{label}
-use Rattle.canonize.specs.declared.Labelled.{Labelled}
-use Rattle.canonize.specs.declared.Labelled.TheVariants.{Length, Record, Set, Buffer}
+use Rattle.canonize.specs.declared.LabelRefusal.{LabelRefusal}
+use Rattle.canonize.specs.declared.LabelRefusal.TheVariants.{Record, Set, Buffer}
 
 -- row 13: set empty, a bit at n or above, or not connected
 unfoldable pub bad_set : Bytes → ℕ → Bool
@@ -47,9 +47,18 @@ buffer_after r s buffer = elim (label_verdict r s (length buffer)) [
   | refused k p ↦ buffer
 ]
 
--- what label's enum says in document 01's numbers and values
-abbrev pub answer_of : Labelled → LabelAnswer
-answer_of (Length n) = labelled n
-answer_of (Record f) = turned_back (number_of f) (place_of f)
-answer_of Set = turned_back 13 0
-answer_of Buffer = turned_back 14 0
+-- a refusal's row of document 01, and its place
+abbrev pub refusal_number : LabelRefusal → ℕ
+refusal_number (Record f) = number_of f
+refusal_number Set = 13
+refusal_number Buffer = 14
+
+abbrev pub refusal_place : LabelRefusal → ℕ
+refusal_place (Record f) = place_of f
+refusal_place Set = 0
+refusal_place Buffer = 0
+
+-- what label's result says in document 01's numbers and values
+abbrev pub answer_of : Result ℕ LabelRefusal → LabelAnswer
+answer_of (Ok n) = labelled n
+answer_of (Err f) = turned_back (refusal_number f) (refusal_place f)

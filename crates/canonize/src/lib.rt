@@ -9,20 +9,52 @@ ghost use Rattle.canonize.specs.Inner.Slate.{Slate, Labels};
 ghost use Rattle.canonize.specs.Inner.Places.{Wrote};
 ghost use Rattle.canonize.specs.Answer.{bad_set, label_answer, buffer_after, answer_of};
 
-use molecule::{Fault, fields, graph};
+use molecule::{Fault, Refusal, fields, graph};
 
 pub mod compare;
 mod peel;
 pub mod slate;
 mod strings;
 
-// What label answers: the label's length, or why the record, the set or the buffer is turned back.
-#[derive(Clone, Copy)]
-pub enum Labelled {
-    Length(usize),
+// Why a label is not answered: rows 1 to 6 of document 01, the record; 13, the set; 14, the buffer.
+#[derive(Clone, Copy, Debug, PartialEq, Eq)]
+pub enum LabelRefusal {
     Record(Fault),
     Set,
     Buffer,
+}
+
+impl From<Fault> for LabelRefusal {
+    ghost use Rattle.canonize.specs.declared.LabelRefusal.TheVariants.{Record};
+
+    ghost from_gives = { λ fault refusal. refusal ≡ Record fault };
+
+    fn from(fault: Fault) -> LabelRefusal {
+        LabelRefusal::Record(fault)
+    }
+}
+
+impl Refusal for LabelRefusal {
+    ghost use Rattle.canonize.specs.Answer.{refusal_number, refusal_place};
+
+    ghost number_of = { refusal_number };
+
+    ghost place_of = { refusal_place };
+
+    fn number(self) -> u32 {
+        match self {
+            LabelRefusal::Record(fault) => fault.number(),
+            LabelRefusal::Set => 13,
+            LabelRefusal::Buffer => 14,
+        }
+    }
+
+    fn place(self) -> u64 {
+        match self {
+            LabelRefusal::Record(fault) => fault.place(),
+            LabelRefusal::Set | LabelRefusal::Buffer => 0,
+        }
+    }
 }
 
 // Whether the set is a fragment of an accepted record: not empty, of its bonds, and connected.
@@ -50,29 +82,27 @@ fn label_out(bytes: &[u8], at: &[u64; 65], set: u64, page: &mut [u8], out: &mut 
 
 // label of an accepted record.
 #[tactic(auto, using(molecule::proofs::Accepted::accepted_formed, crate::proofs::Answers::good_set))]
-fn label_accepted(bytes: &[u8], set: u64, out: &mut [u8]) -> Labelled
+fn label_accepted(bytes: &[u8], set: u64, out: &mut [u8]) -> Result<usize, LabelRefusal>
     requires { check bytes.now ≡ accepted }
     ensures answer { answer_of result ≡ label_answer bytes.now set out.old }
     ensures buffer { out.new ≡ buffer_after bytes.now set out.old }
 {
     let at = graph::bonds_at(bytes);
     if !is_fragment(bytes, &at, set) {
-        return Labelled::Set;
+        return Err(LabelRefusal::Set);
     }
     if out.len() < 389 {
-        return Labelled::Buffer;
+        return Err(LabelRefusal::Buffer);
     }
     let mut page = slate::blank();
-    Labelled::Length(label_out(bytes, &at, set, &mut page, out))
+    Ok(label_out(bytes, &at, set, &mut page, out))
 }
 
-// The label of a set of bonds of a record, at the front of the buffer.
-pub fn label(bytes: &[u8], set: u64, out: &mut [u8]) -> Labelled
+// The label of a set of bonds of a record goes to the front of the buffer: its length.
+pub fn label(bytes: &[u8], set: u64, out: &mut [u8]) -> Result<usize, LabelRefusal>
     ensures answer { answer_of result ≡ label_answer bytes.now set out.old }
     ensures buffer { out.new ≡ buffer_after bytes.now set out.old }
 {
-    match molecule::check(bytes) {
-        Ok(()) => label_accepted(bytes, set, out),
-        Err(fault) => Labelled::Record(fault),
-    }
+    molecule::check(bytes)?;
+    label_accepted(bytes, set, out)
 }

@@ -1,5 +1,5 @@
 -- score's answer in the fields of the C reply.
-use Rattle.std.specs.Prelude.{◌≡◌, ℕ, length, take}
+use Rattle.std.specs.Prelude.{◌≡◌, ℕ, length, take, Result, MatchResult}
 use Rattle.molecule.specs.Lists.{Bytes}
 use Rattle.molecule.specs.Verdict.{number_of, place_of}
 use Rattle.search.specs.Setting.{Setting}
@@ -8,7 +8,15 @@ use Rattle.assembly.specs.Answer.{Loan, answer_to, Leaves}
 use Rattle.assembly.specs.Demand.{Demand3}
 use Rattle.assembly.specs.declared.answer.Scored.{Scored}
 use Rattle.assembly.specs.declared.answer.Scored.TheVariants as says
+use Rattle.capi.specs.declared.Reply.{Reply}
 use Rattle.capi.specs.declared.ScoreReply.{ScoreReply}
+
+-- the reply to a value, with number 0; or to a refusal, with its number and its place
+abbrev pub RepliesTo : {R : Type 0} → (R → ℕ) → (R → ℕ) → Result ℕ R → Reply → Type 0
+RepliesTo number_of place_of answer reply =
+    MatchResult answer
+    (λ value. (reply.number ≡ 0) × (reply.place ≡ value))
+    (λ refusal. (reply.number ≡ number_of refusal) × (reply.place ≡ place_of refusal))
 
 -- the setting that is asked with
 abbrev pub asked : ℕ → ℕ → ℕ → Setting

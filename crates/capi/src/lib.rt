@@ -2,7 +2,6 @@
 // The public calls with the replies that cross to C: a number and a place, or what a score holds. The C functions are those of `capi_c`, which call these.
 ghost use Rattle.std.specs.Prelude.{◌≡◌, length};
 ghost use Rattle.molecule.specs.Check.{check, number, place};
-ghost use Rattle.molecule.specs.Verdict.{number_of, place_of};
 ghost use Rattle.canonize.specs.Answer.{number as label_number, value as label_value, label_answer, buffer_after};
 ghost use Rattle.tabulate.specs.Counted.{number as count_number, value as count_value, count_answer, table_after};
 ghost use Rattle.assembly.specs.Answer.{loan};
@@ -10,8 +9,7 @@ ghost use Rattle.capi.specs.Reply.{asked, turned, reply_of, Answered};
 
 use assembly::answer::Scored;
 use assembly::{Setting, score};
-use canonize::Labelled;
-use molecule::{Fault, Refusal};
+use molecule::Refusal;
 use tabulate::count::Counted;
 
 // Document 01's number, 0 where there is no refusal, and its place, or for a label its length, for matches how many there are.
@@ -22,23 +20,22 @@ pub struct Reply {
     pub place: u64,
 }
 
-// No refusal, with a value.
-fn answered(value: u64) -> Reply
-    ensures { (result.number ≡ 0) × (result.place ≡ value) }
-{
-    Reply {
-        number: 0,
-        place: value,
-    }
-}
+impl<R: Refusal> From<Result<u64, R>> for Reply {
+    ghost use Rattle.capi.specs.Reply.{RepliesTo};
 
-// A record that is turned back.
-fn turned_back(fault: Fault) -> Reply
-    ensures { (result.number ≡ number_of fault) × (result.place ≡ place_of fault) }
-{
-    Reply {
-        number: fault.number(),
-        place: fault.place(),
+    ghost from_gives = { RepliesTo R.number_of R.place_of };
+
+    fn from(answer: Result<u64, R>) -> Reply {
+        match answer {
+            Ok(value) => Reply {
+                number: 0,
+                place: value,
+            },
+            Err(refusal) => Reply {
+                number: refusal.number(),
+                place: refusal.place(),
+            },
+        }
     }
 }
 
@@ -46,10 +43,7 @@ fn turned_back(fault: Fault) -> Reply
 pub fn assembly_check(bytes: &[u8]) -> Reply
     ensures { (result.number ≡ number (check bytes.now)) × (result.place ≡ place (check bytes.now)) }
 {
-    match molecule::check(bytes) {
-        Ok(()) => answered(0),
-        Err(fault) => turned_back(fault),
-    }
+    Reply::from(molecule::check(bytes).map(|()| 0))
 }
 
 // label.
@@ -58,18 +52,7 @@ pub fn assembly_label(bytes: &[u8], set: u64, out: &mut [u8]) -> Reply
         × (result.place ≡ label_value (label_answer bytes.now set out.old)) }
     ensures buffer { out.new ≡ buffer_after bytes.now set out.old }
 {
-    match canonize::label(bytes, set, out) {
-        Labelled::Length(n) => answered(n as u64),
-        Labelled::Record(fault) => turned_back(fault),
-        Labelled::Set => Reply {
-            number: 13,
-            place: 0,
-        },
-        Labelled::Buffer => Reply {
-            number: 14,
-            place: 0,
-        },
-    }
+    Reply::from(canonize::label(bytes, set, out).map(|n| n as u64))
 }
 
 // matches.
@@ -80,8 +63,14 @@ pub fn assembly_matches(bytes: &[u8], parts: &mut [u64], pairs: &mut [u64]) -> R
     ensures pairs { pairs.new ≡ table_after bytes.now pairs.old }
 {
     match tabulate::count::count(bytes, parts, pairs) {
-        Counted::Count(n) => answered(n),
-        Counted::Record(fault) => turned_back(fault),
+        Counted::Count(n) => Reply {
+            number: 0,
+            place: n,
+        },
+        Counted::Record(fault) => Reply {
+            number: fault.number(),
+            place: fault.place(),
+        },
         Counted::Parts(k) => Reply {
             number: 9,
             place: k,

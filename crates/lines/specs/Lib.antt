@@ -1,6 +1,4 @@
 pub mod Hex
+pub mod Noise
 pub mod Numbers
-pub mod Inside
-pub mod Lengths
-pub mod Lent
 pub mod Words

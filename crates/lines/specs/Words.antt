@@ -1,16 +1,18 @@
 -- The words of a line.
-use Rattle.std.specs.Prelude.{◌≡◌, ℕ, ◌<◌, ◌≤◌, List, length, ◌≢◌, slice_index}
-use Rattle.lines.specs.declared.words.Word.{Word}
+use Rattle.std.specs.Prelude.{◌≡◌, ℕ, List, [], ◌∷◌, ◌++◌, ◌≢◌, All, Option, Some, None}
+use Rattle.std.specs.Option.{IsSomeAnd}
 
--- the word lies within the line
-pub record InLine (line : List ℕ) (w : Word) : Type 0 where
-  pub ordered : w.start ≤ w.end
-  pub inside : w.end ≤ length line
+-- what stands behind a word: nothing, or a space (32) and what is left of the line
+abbrev pub behind : Option (List ℕ) → List ℕ
+behind None = []
+behind (Some left) = 32 ∷ left
 
--- the word from start up to the next space (32) or the end of the line; past the end it is empty
-pub record WordAt (line : List ℕ) (start : ℕ) (w : Word) : Type 0 where
-  pub within : InLine line w
-  pub starts : start ≤ length line → w.start ≡ start
-  pub past : length line ≤ start → w.end ≤ w.start
-  pub whole : (k : ℕ) → k < w.end → w.start ≤ k → slice_index line k ≢ 32
-  pub ended : w.end < length line → slice_index line w.end ≡ 32
+-- the first word of a line is all before its first space
+pub record FirstWord (line word : List ℕ) (left : Option (List ℕ)) : Type 0 where
+  pub whole : All (λ b. b ≢ 32) word
+  pub joined : line ≡ word ++ behind left
+
+-- the next word was read; or all were read before
+abbrev pub TakesWord : Option (List ℕ) → Option (List ℕ) → Option (List ℕ) → Type 0
+TakesWord None word left = (word ≡ None) × (left ≡ None)
+TakesWord (Some line) word left = IsSomeAnd word (λ w. FirstWord line w left)

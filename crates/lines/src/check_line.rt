@@ -1,45 +1,18 @@
 // The command `check HEX`: accepted, or refused with a number and a place.
-use crate::hex::Bytes;
-use crate::words::Word;
-use crate::{Answer, hex, output, words};
-use molecule::{Fault, Refusal};
+use crate::hex;
+use crate::output::Output;
+use crate::words::Words;
 
-// Answers the line, whose first word is the command.
-pub fn answer(
-    rt: &impl Print,
-    line: &[u8],
-    command: Word,
-    out: &mut [u8; 4096],
-    at: usize,
-) -> Answer {
-    let word = words::next_word(line, command);
-    if !words::is_last(line, word) {
-        return Answer::Unreadable;
+// Answers the line with these words behind the command.
+pub fn answer<P: Print>(mut words: Words, out: &mut Output<P>) -> Option<()> {
+    let mut space = [0u8; 2048];
+    let record = hex::record(words.next()?, &mut space)?;
+    if !words.is_done() {
+        return None;
     }
-    let mut record = [0u8; 2048];
-    let bytes = hex::record_bytes(words::text(line, word), &mut record);
-    match bytes {
-        Bytes::Count(n) => {
-            let verdict = molecule::check(&record[0..n]);
-            Answer::Put(put_verdict(rt, out, at, verdict))
-        }
-        Bytes::Unreadable => Answer::Unreadable,
+    match molecule::check(record) {
+        Ok(()) => out.print("accepted"),
+        Err(fault) => out.refuse(fault),
     }
-}
-
-// Puts `accepted` or `refused NUMBER PLACE`.
-fn put_verdict(
-    rt: &impl Print,
-    out: &mut [u8; 4096],
-    at: usize,
-    verdict: Result<(), Fault>,
-) -> usize {
-    match verdict {
-        Ok(()) => output::put_text(rt, out, at, b"accepted"),
-        Err(fault) => {
-            let number = u64::from(fault.number());
-            let place = fault.place();
-            output::put_refused(rt, out, at, number, place)
-        }
-    }
+    Some(())
 }

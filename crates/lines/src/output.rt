@@ -1,90 +1,76 @@
 // The answers on their way out: they are collected, and written when the buffer is full.
-ghost use Rattle.std.specs.Prelude.{◌≤◌};
+ghost use Rattle.std.specs.Prelude.{◌≡◌, ◌≤◌};
 
-use crate::hex;
-use std::io;
-use std::io::Write;
+use molecule::Refusal;
+use std::fmt;
+use std::fmt::{Display, Write};
 
-// Writes the first at bytes; at 4096 or more the whole buffer. A write that fails is passed over.
-pub fn flush(rt: &impl Print, out: &[u8; 4096], at: usize) {
-    let bytes: &[u8] = out;
-    let mut writer = io::writer(rt);
-    let written = if at < 4096 {
-        writer.write_all(&bytes[0..at])
-    } else {
-        writer.write_all(bytes)
-    };
-    match written {
-        Ok(()) => {}
-        Err(_) => {}
+// The answers that are still to be written.
+#[derive(Drop)]
+pub struct Output<'a, P> {
+    rt: &'a P,
+    bytes: [u8; 4096],
+    length: usize,
+    ghost within: { length ≤ 4096 },
+}
+
+impl<'a, P: Print> Output<'a, P> {
+    // With nothing to write.
+    pub fn new(rt: &'a P) -> Output<'a, P> {
+        Output {
+            rt,
+            bytes: [0; 4096],
+            length: 0,
+        }
+    }
+
+    // Writes what was collected. A write that fails is passed over.
+    pub fn flush(&mut self)
+        ensures { self.new.length ≡ 0 }
+    {
+        let _ = self.rt.write_all(&self.bytes[..self.length]);
+        self.length = 0;
+    }
+
+    // Puts a byte.
+    pub fn put(&mut self, b: u8) {
+        if self.length == 4096 {
+            self.flush();
+        }
+        self.bytes[self.length] = b;
+        self.length += 1;
+    }
+
+    // Puts the text of a value. No write to an Output fails.
+    pub fn print<D: Display + Drop>(&mut self, value: D) {
+        let _ = self.write(value);
+    }
+
+    // Puts bytes in hexadecimal, two digits to each.
+    pub fn print_hex(&mut self, bytes: &[u8]) {
+        for b in bytes {
+            self.print(format_args!("{b:02x}"));
+        }
+    }
+
+    // Puts `refused NUMBER PLACE`.
+    pub fn refuse<R: Refusal>(&mut self, refusal: R) {
+        let number = refusal.number();
+        let place = refusal.place();
+        self.print(format_args!("refused {number} {place}"));
+    }
+
+    // Puts `refused NUMBER PLACE`.
+    pub fn refuse_row(&mut self, number: u32, place: u64) {
+        self.print(format_args!("refused {number} {place}"));
     }
 }
 
-// Puts a byte after the first at, and answers how many there are now.
-pub fn put(rt: &impl Print, out: &mut [u8; 4096], at: usize, b: u8) -> usize
-    ensures { result ≤ 4096 }
-{
-    if at < 4096 {
-        out[at] = b;
-        at + 1
-    } else {
-        flush(rt, out, at);
-        out[0] = b;
-        1
+impl<P: Print> Write for Output<'_, P> {
+    fn write_str(&mut self, s: &str) -> fmt::Result {
+        for b in s.as_bytes() {
+            self.put(*b);
+        }
+        Ok(())
     }
-}
-
-// Puts a text.
-pub fn put_text(rt: &impl Print, out: &mut [u8; 4096], at: usize, text: &[u8]) -> usize {
-    let mut end = at;
-    let mut i = 0;
-    while i < text.len() {
-        end = put(rt, out, end, text[i]);
-        i += 1;
-    }
-    end
-}
-
-// Puts bytes in hexadecimal, two digits to each.
-pub fn put_hex(rt: &impl Print, out: &mut [u8; 4096], at: usize, bytes: &[u8]) -> usize {
-    let mut end = at;
-    let mut i = 0;
-    while i < bytes.len() {
-        let b = bytes[i];
-        let high = put(rt, out, end, hex::digit_of(b / 16));
-        end = put(rt, out, high, hex::digit_of(b % 16));
-        i += 1;
-    }
-    end
-}
-
-// Puts a number in decimal.
-pub fn put_decimal(rt: &impl Print, out: &mut [u8; 4096], at: usize, n: u64) -> usize {
-    let mut digits = itoa::Buffer::new();
-    let text = digits.format(n);
-    put_text(rt, out, at, text.as_bytes())
-}
-
-// Puts a space and a number in decimal.
-pub fn put_number(rt: &impl Print, out: &mut [u8; 4096], at: usize, n: u64) -> usize {
-    let space = put(rt, out, at, b' ');
-    put_decimal(rt, out, space, n)
-}
-
-// The same of a number of 32 bits.
-pub fn put_short(rt: &impl Print, out: &mut [u8; 4096], at: usize, n: u32) -> usize {
-    put_number(rt, out, at, n as u64)
-}
-
-// Puts `refused NUMBER PLACE`.
-pub fn put_refused(
-    rt: &impl Print,
-    out: &mut [u8; 4096],
-    at: usize,
-    number: u64,
-    place: u64,
-) -> usize {
-    let word = put_text(rt, out, at, b"refused");
-    let first = put_number(rt, out, word, number);
-    put_number(rt, out, first, place)
 }

@@ -1,16 +1,12 @@
--- What record_bytes says of the count that it answers bounds the record; a label is at most 389 bytes, and turned back where the buffer is shorter.
-use Rattle.std.proofs.Common.{◌≡◌, ℕ, ◌≤◌, Bool, true, false, ltb, length, refl, arith, ltb-false, ltb-true}
+-- A label is no longer than the buffer that it was asked with.
+use Rattle.std.proofs.Common.{◌≡◌, ℕ, ◌≤◌, Bool, true, false, ltb, length, length-take, refl, arith, ltb-false, ltb-true}
 use Rattle.molecule.specs.Lists.{Bytes}
 use Rattle.molecule.specs.Check.{Answer, accepted, refused, check}
 use Rattle.canonize.specs.Label.{label}
-use Rattle.canonize.specs.Answer.{bad_set, label_verdict, labelled, label_answer, answer_of}
-use Rattle.canonize.specs.declared.Labelled.{Labelled}
-use Rattle.canonize.specs.declared.Labelled.TheVariants.{Length, Record, Set, Buffer}
+use Rattle.canonize.specs.Answer.{bad_set, label_verdict, labelled, label_answer}
 use Rattle.canonize.proofs.Laws.{answer_refused, answer_label, record_row, set_row, buffer_row, no_row, good_set, label_fits}
-use Rattle.lines.specs.Inside.{Inside}
-use Rattle.lines.proofs.label_line.answer.Goals as goal
+use Rattle.lines.proofs.label_line.put_label.Goals as goal
 
--- a label lies inside its buffer
 module _ (r : Bytes) (s : ℕ) (buffer : Bytes) (n : ℕ) (e : labelled n ≡ label_answer r s buffer) where
   turned_back_lem : (k p : ℕ) → label_verdict r s (length buffer) ≡ refused k p → n ≤ length buffer
   turned_back_lem k p v = let z : ◌≡◌ {A = ℕ} 0 1 = cc (answer_refused r s buffer k p v).0 in absurd (omega arith)
@@ -31,11 +27,11 @@ module _ (r : Bytes) (s : ℕ) (buffer : Bytes) (n : ℕ) (e : labelled n ≡ la
   by_record (refused k p) v = turned_back_lem k p (record_row r s buffer k p v)
   by_record accepted a = by_set a (bad_set r s) refl
 
-label_inside : (r : Bytes) (s : ℕ) (buffer after : Bytes) (l : Labelled) → answer_of l ≡ label_answer r s buffer → length after ≡ length buffer → Inside after l
-label_inside r s buffer after (Length n) e k = omega (arith, by_record r s buffer n e (check r) refl)
-label_inside r s buffer after (Record f) e k = tt
-label_inside r s buffer after Set e k = tt
-label_inside r s buffer after Buffer e k = tt
+  label_inside : n ≤ length buffer
+  label_inside = by_record (check r) refl
 
-pub put_labelled-requires : goal.put_labelled-requires
-put_labelled-requires g c = label_inside _ _ _ _ c.label-labelled.result c.label-labelled.ensures.answer c.label-labelled.auto.out
+pub slice_bounds-print_hex-end : goal.slice_bounds-print_hex-end
+slice_bounds-print_hex-end g c = omega (arith, label_inside _ _ _ _ c.in-Ok.ensures.answer)
+
+pub slice_bounds-print_hex-end-in-Ok : goal.slice_bounds-print_hex-end-in-Ok
+slice_bounds-print_hex-end-in-Ok g c = simp length-take (omega (arith, label_inside _ _ _ _ c.in-Ok.ensures.answer))
