@@ -20,7 +20,7 @@ pub enum Built {
     Pairs(u64),
 }
 
-// How often so many words have room in them, at most 4,294,967,295 times.
+// How many entries of so many words each there is room for, at most 4,294,967,295.
 fn room(words: usize, each: usize) -> usize
     requires { 0 < each }
     ensures { result ≡ min (words / each) 4294967295 }
@@ -47,6 +47,7 @@ fn walk(
     let mut to = n;
     let mut size: u64 = 2;
     let mut total: u64 = 0;
+    // A while: what a size finds are the parents of the next, until there are none.
     while from < to {
         let done = rounds::size(bytes, at, touch, parts, p, from, to, slate).ok_or(size)?;
         total += done.matches;
