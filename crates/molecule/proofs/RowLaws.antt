@@ -59,6 +59,7 @@ module _ (r : Bytes) (s : RightCounts r) where
   unfolding check bad_length bad_counts row
   past_2 = let t = s in grind (arith, nat_tests)
 
+  -- and check's answer at each of its ways out
   pub row_3 : (v : ℕ) → IsLowest (bad_element r) (atoms r) (Some v) → refused 3 v ≡ check r
   row_3 v h = sym (past_2 ∙ row_at_some 3 (bad_element r) (atoms r) from4 v h)
 
@@ -86,6 +87,7 @@ module _ (r : Bytes) (s : RightCounts r) where
         pub no_row : IsLowest (unreached r) (atoms r) None → accepted ≡ check r
         no_row h = sym (past_5 ∙ row_at_none 6 (unreached r) (atoms r) accepted h)
 
+  -- what row 6 may ask of the record
   pub formed : IsLowest (bad_ends r) (bonds r) None → Formed r
   formed ends = record { sized = s; ends = λ i h. ends_right r i (ends i h) }
 

@@ -32,6 +32,7 @@ module _ (r : Bytes) where
     pub long : length l ≡ 65
     pub each : (v : ℕ) → v < 65 → get_or l v 0 ≡ set_of (is_end r v) i
 
+  -- at the loop's start, and at its end
   pub atoms_start : AtomsUpTo 0 (replicate 65 0)
   atoms_start = record { long = refl; each = λ v h. zeros_at 65 v ∙ sym (set_of_none (is_end r v)) }
 
@@ -91,6 +92,7 @@ module _ (r : Bytes) where
     pub each : (j : ℕ) → j < i → get_or l j 0 ≡ touching r j
     pub rest : (j : ℕ) → i ≤ j → get_or l j 0 ≡ 0
 
+  -- at the loop's start, and at its end
   pub bonds_start : BondsUpTo 0 (replicate 64 0)
   bonds_start = record { long = refl; each = λ j h. absurd (omega arith); rest = λ j h. zeros_at 64 j }
 

@@ -1,3 +1,4 @@
+-- It begins with no bond and ends with them all.
 use Rattle.std.proofs.Common.{◌≡◌, arith}
 use Rattle.molecule.specs.Record.{bonds}
 use Rattle.molecule.proofs.Words.{bonds_start, bonds_are}
