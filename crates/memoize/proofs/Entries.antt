@@ -75,8 +75,7 @@ module _ {r : Bytes} {old : List ℕ} {b : ℕ} {x : Entry} (h : EntryWords r ol
         block = rw count (record {
           wide = w;
           few = k.few;
-          own = λ j g. rw (piece j g) (k.own j g);
-          connected = λ j g. rw (piece j g) (k.connected j g);
+          fragments = λ j g. rw (piece j g) (k.fragments j g);
           hashes = λ j g. hash_at j g ∙ k.hashes j g ∙ ap (λ (y : ℕ). hash (label r y)) (sym (piece j g));
         });
         key = rw count (ap (λ (y : List ℕ). sort (map (label r) y)) pieces_are ∙ h.key);

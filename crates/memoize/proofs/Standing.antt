@@ -130,8 +130,7 @@ module _ {r : Bytes} {pieces stood now : List ℕ} {total : ℕ} {removals : Lis
         block = rw c (record {
           wide = omega (arith, long);
           few = omega arith;
-          own = λ j g. rw (zero-add j, set_at j g) (w.stands j g).own;
-          connected = λ j g. rw (zero-add j, set_at j g) (w.stands j g).connected;
+          fragments = λ j g. rw (zero-add j, set_at j g) (w.stands j g).fragment;
           hashes = λ j g.
               rw (zero-add j)
               (four_other now n m index total (32 + j) (omega arith)

@@ -3,16 +3,17 @@
 // An entry has sets that stand for its pieces (crate desk), so that most labels are settled by comparing sets. A state that asks first drafts
 // its own entry in 80 words. specs/Inner/Stored.antt has the layout.
 ghost use Rattle.std.specs.Prelude.{◌≡◌, not, ◌||◌, List, ◌+◌, ◌*◌, ◌/◌, ◌%◌, ◌≤◌, ◌<◌, length, get_or, ltb};
-ghost use Rattle.molecule.specs.Connected.{Own, Connected};
 ghost use Rattle.canonize.specs.Label.{label};
 ghost use Rattle.canonize.specs.Strings.{lex_le, sort, hash};
-ghost use Rattle.canonize.specs.Inner.Slate.{Slate};
+ghost use Rattle.canonize.specs.Inner.Slate.{Fragment};
 ghost use Rattle.search.specs.Memo.{Entry, same_key, remember};
-ghost use Rattle.desk.specs.Inner.Cached.{Cached, Lent};
-ghost use Rattle.memoize.specs.Inner.Stored.{Writing, Fragments, Stood, Block, label_at, labels, Picked};
+ghost use Rattle.desk.specs.Inner.Cached.{Cached};
+ghost use Rattle.memoize.specs.Inner.Stored.{Fragments, Stood, Block, label_at, labels, Picked};
 ghost use Rattle.memoize.specs.Inner.Stored.{Sized, removals_at, EntryWords, Stored, Located, Filled, Put, entry_with, MemoAnswers};
 
+use canonize::Slate;
 use desk::Known;
+use molecule::Molecule;
 
 // Every entry of the memo is used.
 #[derive(Clone, Copy, Debug, PartialEq, Eq)]
@@ -20,19 +21,17 @@ pub struct Full;
 
 // The first of the count pieces from word base on that is not used and has the label of x's set, whose hash is x's.
 fn pick(
-    bytes: &[u8],
-    at: &[u64; 65],
+    molecule: &Molecule,
     memo: &[u64],
     base: usize,
     count: usize,
     used: u64,
     x: Known,
-    slate: &mut [u8],
+    slate: &mut Slate,
 ) -> Option<usize>
-    requires { Writing bytes.now at.now slate.old × Block bytes.now memo.now base count
-        × Own bytes.now x.set × Connected bytes.now x.set × (x.hash ≡ hash (label bytes.now x.set)) }
-    ensures picked { Picked (label_at bytes.now memo.now base) count used (label bytes.now x.set) result }
-    ensures slate { Slate slate.new }
+    requires { Block molecule.now.bytes.now memo.now base count
+        × Fragment molecule.now.bytes.now x.set × (x.hash ≡ hash (label molecule.now.bytes.now x.set)) }
+    ensures { Picked (label_at molecule.now.bytes.now memo.now base) count used (label molecule.now.bytes.now x.set) result }
 {
     for j in 0..count {
         if bitset::contains(used, j as u32) {
@@ -45,7 +44,7 @@ fn pick(
         if memo[base + 32 + j] != x.hash {
             continue;
         }
-        if desk::equal_labels(bytes, at, x.set, y, slate) {
+        if desk::equal_labels(molecule, x.set, y, slate) {
             return Some(j);
         }
     }
@@ -54,18 +53,16 @@ fn pick(
 
 // Whether the count pieces of the new entry have the same labels as those from word base on, each as often.
 fn same_pieces(
-    bytes: &[u8],
-    at: &[u64; 65],
+    molecule: &Molecule,
     memo: &[u64],
     base: usize,
     new: &[u64],
     count: usize,
-    slate: &mut [u8],
+    slate: &mut Slate,
 ) -> bool
-    requires { Writing bytes.now at.now slate.old × Block bytes.now memo.now base count × Block bytes.now new.now 0 count }
-    ensures same { result ≡ same_key (sort (labels bytes.now new.now 0 count))
-        (sort (labels bytes.now memo.now base count)) }
-    ensures slate { Slate slate.new }
+    requires { Block molecule.now.bytes.now memo.now base count × Block molecule.now.bytes.now new.now 0 count }
+    ensures { result ≡ same_key (sort (labels molecule.now.bytes.now new.now 0 count))
+        (sort (labels molecule.now.bytes.now memo.now base count)) }
 {
     let mut used = 0;
     for i in 0..count {
@@ -73,7 +70,7 @@ fn same_pieces(
             hash: new[32 + i],
             set: new[i],
         };
-        let Some(j) = pick(bytes, at, memo, base, count, used, x, slate) else {
+        let Some(j) = pick(molecule, memo, base, count, used, x, slate) else {
             return false;
         };
         used = bitset::insert(used, j as u32);
@@ -91,18 +88,16 @@ fn bucket(total: u64, room: usize) -> usize
 
 // Whether entry e has the key of the new entry.
 fn is_key(
-    bytes: &[u8],
-    at: &[u64; 65],
+    molecule: &Molecule,
     memo: &[u64],
     e: usize,
     new: &[u64],
-    slate: &mut [u8],
+    slate: &mut Slate,
 ) -> bool
-    requires { Writing bytes.now at.now slate.old × ((x : Entry) × EntryWords bytes.now memo.now (80 * e) x)
-        × ((y : Entry) × EntryWords bytes.now new.now 0 y) }
-    ensures key { (x y : Entry) → EntryWords bytes.now memo.now (80 * e) x
-        → EntryWords bytes.now new.now 0 y → result ≡ same_key y.key x.key }
-    ensures slate { Slate slate.new }
+    requires { ((x : Entry) × EntryWords molecule.now.bytes.now memo.now (80 * e) x)
+        × ((y : Entry) × EntryWords molecule.now.bytes.now new.now 0 y) }
+    ensures { (x y : Entry) → EntryWords molecule.now.bytes.now memo.now (80 * e) x
+        → EntryWords molecule.now.bytes.now new.now 0 y → result ≡ same_key y.key x.key }
 {
     if memo[80 * e + 67] != new[67] {
         return false;
@@ -111,23 +106,21 @@ fn is_key(
     if memo[80 * e + 64] != count {
         return false;
     }
-    same_pieces(bytes, at, memo, 80 * e, new, count as usize, slate)
+    same_pieces(molecule, memo, 80 * e, new, count as usize, slate)
 }
 
 // The entry with the key of the new entry.
 fn locate(
-    bytes: &[u8],
-    at: &[u64; 65],
+    molecule: &Molecule,
     memo: &[u64],
     entries: usize,
     new: &[u64],
-    slate: &mut [u8],
+    slate: &mut Slate,
 ) -> Option<usize>
-    requires { Writing bytes.now at.now slate.old × ((m : List Entry) × Stored bytes.now memo.now entries m)
-        × ((y : Entry) × EntryWords bytes.now new.now 0 y) }
-    ensures located { (m : List Entry) (y : Entry) → Stored bytes.now memo.now entries m
-        → EntryWords bytes.now new.now 0 y → Located m y.key result }
-    ensures slate { Slate slate.new }
+    requires { ((m : List Entry) × Stored molecule.now.bytes.now memo.now entries m)
+        × ((y : Entry) × EntryWords molecule.now.bytes.now new.now 0 y) }
+    ensures { (m : List Entry) (y : Entry) → Stored molecule.now.bytes.now memo.now entries m
+        → EntryWords molecule.now.bytes.now new.now 0 y → Located m y.key result }
 {
     let room = memo.len() / 80;
     if room == 0 {
@@ -137,7 +130,7 @@ fn locate(
     // A while: the entries of a bucket are a chain in the lent words, with 0 at its end.
     while k != 0 {
         let e = (k - 1) as usize;
-        if is_key(bytes, at, memo, e, new, slate) {
+        if is_key(molecule, memo, e, new, slate) {
             return Some(e);
         }
         k = memo[80 * e + 68];
@@ -183,21 +176,19 @@ fn store(memo: &mut [u64], e: usize, new: &[u64])
 
 // The memo's answer to a state with this new entry: how many entries it has then, where the state goes on, and none where it is stopped.
 fn answer(
-    bytes: &[u8],
-    at: &[u64; 65],
+    molecule: &Molecule,
     memo: &mut [u64],
     entries: usize,
     new: &[u64],
-    slate: &mut [u8],
+    slate: &mut Slate,
 ) -> Result<Option<usize>, Full>
-    requires { Writing bytes.now at.now slate.old × ((m : List Entry) × Stored bytes.now memo.old entries m)
-        × ((y : Entry) × EntryWords bytes.now new.now 0 y) }
-    ensures answer { (m : List Entry) (y : Entry) → Stored bytes.now memo.old entries m
-        → EntryWords bytes.now new.now 0 y
-        → MemoAnswers bytes.now memo.old memo.new result (remember (length memo.old / 80) y m) }
-    ensures slate { Slate slate.new }
+    requires { ((m : List Entry) × Stored molecule.now.bytes.now memo.old entries m)
+        × ((y : Entry) × EntryWords molecule.now.bytes.now new.now 0 y) }
+    ensures { (m : List Entry) (y : Entry) → Stored molecule.now.bytes.now memo.old entries m
+        → EntryWords molecule.now.bytes.now new.now 0 y
+        → MemoAnswers molecule.now.bytes.now memo.old memo.new result (remember (length memo.old / 80) y m) }
 {
-    if let Some(e) = locate(bytes, at, memo, entries, new, slate) {
+    if let Some(e) = locate(molecule, memo, entries, new, slate) {
         if !gives_way(memo, e, new) {
             return Ok(None);
         }
@@ -213,22 +204,20 @@ fn answer(
 
 // For each piece a set that stands for it and the hash of its label, in the new entry; the sum of the hashes.
 fn stand_all(
-    bytes: &[u8],
-    at: &[u64; 65],
+    molecule: &Molecule,
     pieces: &[u64],
     new: &mut [u64],
     desk: &mut [u64],
-    slate: &mut [u8],
+    slate: &mut Slate,
 ) -> u64
-    requires { Lent bytes.now at.now desk.old slate.old × Fragments bytes.now pieces.now
+    requires { Cached molecule.now.bytes.now desk.old × Fragments molecule.now.bytes.now pieces.now
         × (length pieces.now ≤ 32) × (80 ≤ length new.old) }
-    ensures stood { Stood bytes.now pieces.now new.new result }
-    ensures cached { Cached bytes.now desk.new }
-    ensures slate { Slate slate.new }
+    ensures stood { Stood molecule.now.bytes.now pieces.now new.new result }
+    ensures cached { Cached molecule.now.bytes.now desk.new }
 {
     let mut total = 0;
     for (i, piece) in pieces.iter().enumerate() {
-        let known = desk::stands(bytes, at, *piece, desk, slate);
+        let known = desk::stands(molecule, *piece, desk, slate);
         new[i] = known.set;
         new[32 + i] = known.hash;
         total += known.hash;
@@ -248,23 +237,21 @@ fn put_removals(new: &mut [u64], k: usize, removals: &[u32])
 
 // The new entry of a state with these pieces, index and removals.
 fn draft(
-    bytes: &[u8],
-    at: &[u64; 65],
+    molecule: &Molecule,
     pieces: &[u64],
     index: u32,
     removals: &[u32],
     new: &mut [u64],
     desk: &mut [u64],
-    slate: &mut [u8],
+    slate: &mut Slate,
 )
-    requires { Lent bytes.now at.now desk.old slate.old × Fragments bytes.now pieces.now
+    requires { Cached molecule.now.bytes.now desk.old × Fragments molecule.now.bytes.now pieces.now
         × (length pieces.now + length removals.now ≤ 32) × (80 ≤ length new.old) }
-    ensures entry { EntryWords bytes.now new.new 0
-        (entry_with bytes.now pieces.now index removals.now) }
-    ensures cached { Cached bytes.now desk.new }
-    ensures slate { Slate slate.new }
+    ensures entry { EntryWords molecule.now.bytes.now new.new 0
+        (entry_with molecule.now.bytes.now pieces.now index removals.now) }
+    ensures cached { Cached molecule.now.bytes.now desk.new }
 {
-    let total = stand_all(bytes, at, pieces, new, desk, slate);
+    let total = stand_all(molecule, pieces, new, desk, slate);
     put_removals(new, pieces.len(), removals);
     new[64] = pieces.len() as u64;
     new[65] = removals.len() as u64;
@@ -275,26 +262,24 @@ fn draft(
 // A state with these pieces, index and removals asks the memo, which has so many entries: how many it has then, where the state goes on, and none
 // where it is stopped.
 pub fn ask(
-    bytes: &[u8],
-    at: &[u64; 65],
+    molecule: &Molecule,
     memo: &mut [u64],
     entries: usize,
     pieces: &[u64],
     index: u32,
     removals: &[u32],
     desk: &mut [u64],
-    slate: &mut [u8],
+    slate: &mut Slate,
 ) -> Result<Option<usize>, Full>
-    requires { Lent bytes.now at.now desk.old slate.old
-        × ((m : List Entry) × Stored bytes.now memo.old entries m) × Fragments bytes.now pieces.now
+    requires { Cached molecule.now.bytes.now desk.old
+        × ((m : List Entry) × Stored molecule.now.bytes.now memo.old entries m) × Fragments molecule.now.bytes.now pieces.now
         × (length pieces.now + length removals.now ≤ 32) }
-    ensures answer { (m : List Entry) → Stored bytes.now memo.old entries m
-        → MemoAnswers bytes.now memo.old memo.new result
-        (remember (length memo.old / 80) (entry_with bytes.now pieces.now index removals.now) m) }
-    ensures cached { Cached bytes.now desk.new }
-    ensures slate { Slate slate.new }
+    ensures answer { (m : List Entry) → Stored molecule.now.bytes.now memo.old entries m
+        → MemoAnswers molecule.now.bytes.now memo.old memo.new result
+        (remember (length memo.old / 80) (entry_with molecule.now.bytes.now pieces.now index removals.now) m) }
+    ensures cached { Cached molecule.now.bytes.now desk.new }
 {
     let mut new = [0u64; 80];
-    draft(bytes, at, pieces, index, removals, &mut new, desk, slate);
-    answer(bytes, at, memo, entries, &new, slate)
+    draft(molecule, pieces, index, removals, &mut new, desk, slate);
+    answer(molecule, memo, entries, &new, slate)
 }

@@ -5,6 +5,6 @@ use Rattle.desk.proofs.choose.Goals as goal
 
 pub returns-then-is_kept-clause-stands : goal.returns-then-is_kept-clause-stands
 returns-then-is_kept-clause-stands c =
-    let f = c.requires.0.cached.kept c.place-k.result c.place-k.ensures c.if-y-eq0.false in
+    let f = c.requires.0.kept c.place-k.result c.place-k.ensures c.if-y-eq0.false in
     let e = (same_iff _ _).0 (sym c.is_kept.ensures.answer ∙ c.if-is_kept.true) in
-    record { same = sym e ∙ c.requires.3; own = f.0; connected = f.1 }
+    record { same = sym e ∙ c.requires.2; fragment = f }

@@ -7,27 +7,22 @@ use Rattle.memoize.specs.Inner.Stored.{label_at}
 use Rattle.memoize.proofs.Keys.{passed_differ, picked_hit, other_hash}
 use Rattle.memoize.proofs.pick.Goals as goal
 
-pub returns-then-y-x-clause-picked : goal.returns-then-y-x-clause-picked
+pub returns-then-y-x : goal.returns-then-y-x
 unfolding label_at
-returns-then-y-x-clause-picked c =
-    picked_hit c.loop-j-test.true (sym c.contains.ensures ∙ c.if-contains.false) (ap (label c.args.bytes.now) c.if-y-x.true)
+returns-then-y-x c =
+    picked_hit c.loop-j-test.true (sym c.contains.ensures ∙ c.if-contains.false) (ap (label c.args.molecule.now.bytes.now) c.if-y-x.true)
 
 pub loop-j-preserved-then-memo-base : goal.loop-j-preserved-then-memo-base
-loop-j-preserved-then-memo-base c = record {
-  slate = c.loop-j.invariant.slate;
-  passed = passed_differ c.loop-j.invariant.passed (other_hash c.requires.1 c.loop-j.j c.args.x.set c.args.x.hash c.loop-j-test.true c.requires.4 c.if-memo-base.true);
-}
+loop-j-preserved-then-memo-base c =
+    passed_differ c.loop-j.invariant (other_hash c.requires.0 c.loop-j.j c.args.x.set c.args.x.hash c.loop-j-test.true c.requires.2 c.if-memo-base.true)
 
-pub returns-then-equal_labels-clause-picked : goal.returns-then-equal_labels-clause-picked
+pub returns-then-equal_labels : goal.returns-then-equal_labels
 unfolding label_at
-returns-then-equal_labels-clause-picked c =
-    let one = (same_iff _ _).0 (sym c.equal_labels.ensures.same ∙ c.if-equal_labels.true) in
+returns-then-equal_labels c =
+    let one = (same_iff _ _).0 (sym c.equal_labels.ensures ∙ c.if-equal_labels.true) in
     picked_hit c.loop-j-test.true (sym c.contains.ensures ∙ c.if-contains.false) (sym one)
 
 pub loop-j-preserved : goal.loop-j-preserved
 unfolding label_at
-loop-j-preserved c = record {
-  slate = c.equal_labels.ensures.slate;
-  passed = passed_differ c.loop-j.invariant.passed
-      (λ q. false≢true (sym c.if-equal_labels.false ∙ c.equal_labels.ensures.same ∙ (same_iff _ _).1 (sym q)));
-}
+loop-j-preserved c =
+    passed_differ c.loop-j.invariant (λ q. false≢true (sym c.if-equal_labels.false ∙ c.equal_labels.ensures ∙ (same_iff _ _).1 (sym q)))

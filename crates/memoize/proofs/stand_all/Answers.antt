@@ -7,7 +7,7 @@ use Rattle.memoize.proofs.stand_all.Goals as goal
 
 pub overflow_add-total : goal.overflow_add-total
 overflow_add-total c =
-    let small = hash_small (label c.args.bytes.now (get_or c.args.pieces.now c.loop-i.i 0)) in
+    let small = hash_small (label c.args.molecule.now.bytes.now (get_or c.args.pieces.now c.loop-i.i 0)) in
     omega (arith, c.loop-i.invariant.standing.small, small, c.stands-known.ensures.known.0)
 
 pub loop-i-preserved : goal.loop-i-preserved
@@ -16,7 +16,6 @@ loop-i-preserved c =
     let wide : 80 ≤ length c.loop-i.new = omega arith in
     record {
       cached = e.cached;
-      slate = e.slate;
       standing = standing_next c.loop-i.invariant.standing c.loop-i-test.true c.requires.2 wide e.known.0 e.known.1;
     }
 

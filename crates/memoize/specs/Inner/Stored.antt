@@ -5,28 +5,18 @@
 use Rattle.std.specs.Prelude.{◌≡◌, ◌≢◌, true, false, List, [], ◌∷◌, map, ℕ, zero, suc, ◌+◌, ◌*◌, ◌/◌, ◌%◌, ◌≤◌, ◌<◌, Option, Some, None, Result, Ok, Err, length, get_or, take, drop, eqb}
 use Rattle.bitset.specs.Bits.{bit}
 use Rattle.molecule.specs.Lists.{Bytes}
-use Rattle.molecule.specs.Touch.{bonds_at_words}
-use Rattle.molecule.specs.Connected.{Own, Connected}
-use Rattle.molecule.specs.Check.{check, accepted}
 use Rattle.canonize.specs.Strings.{sort, hash}
 use Rattle.canonize.specs.Label.{label}
-use Rattle.canonize.specs.Inner.Slate.{Slate}
+use Rattle.canonize.specs.Inner.Slate.{Fragment}
 use Rattle.desk.specs.Inner.Cached.{Stands}
 use Rattle.search.specs.Memo.{Entry, Memo, goes, stopped, full}
 use Rattle.memoize.specs.declared.Full.{Full}
 
--- an accepted record with the words of the bonds at its atoms, and a slate to write its labels on
-pub record Writing (r : Bytes) (at s : List ℕ) : Type 0 where
-  pub formed : check r ≡ accepted
-  pub touch : at ≡ bonds_at_words r
-  pub slate : Slate s
-
 -- ---- pieces
 
 -- each set of the list is a fragment of the record
-pub record Fragments (r : Bytes) (l : List ℕ) : Type 0 where
-  pub own : (j : ℕ) → j < length l → Own r (get_or l j 0)
-  pub connected : (j : ℕ) → j < length l → Connected r (get_or l j 0)
+abbrev pub Fragments : Bytes → List ℕ → Type 0
+Fragments r l = (j : ℕ) → j < length l → Fragment r (get_or l j 0)
 
 -- the sum of the hashes of a list of labels
 unfoldable pub hash_sum : List Bytes → ℕ
@@ -43,8 +33,7 @@ pub record Stood (r : Bytes) (pieces words : List ℕ) (total : ℕ) : Type 0 wh
 pub record Block (r : Bytes) (words : List ℕ) (base n : ℕ) : Type 0 where
   pub wide : base + 80 ≤ length words
   pub few : n ≤ 32
-  pub own : (j : ℕ) → j < n → Own r (get_or words (base + j) 0)
-  pub connected : (j : ℕ) → j < n → Connected r (get_or words (base + j) 0)
+  pub fragments : (j : ℕ) → j < n → Fragment r (get_or words (base + j) 0)
   pub hashes : (j : ℕ) → j < n → get_or words (base + 32 + j) 0 ≡ hash (label r (get_or words (base + j) 0))
 
 -- the label of the piece at place j of a block
