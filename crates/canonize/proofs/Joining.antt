@@ -12,7 +12,7 @@ use Rattle.molecule.specs.Lists.{Bytes}
 use Rattle.molecule.proofs.Perms.{map_agree}
 use Rattle.canonize.specs.Strings.{sort, wrap, join, collapse}
 use Rattle.canonize.specs.Inner.Places.{Wrote, Least, After, FreeSlot}
-use Rattle.canonize.specs.Inner.Slate.{slot, Slate}
+use Rattle.canonize.specs.Inner.Slate.{slot, Slots}
 use Rattle.canonize.proofs.Splitting.{sort_out, sort_split}
 use Rattle.canonize.proofs.Writing.{wrote_nil, wrote_then}
 use Rattle.canonize.proofs.Slots.{room_part, room_ends, room_serves, room_same, room_length}
@@ -59,7 +59,7 @@ pub record Partly (set : ℕ) (start : Bytes) (place : ℕ) (now : Bytes) (next 
 pub partly_none : {set : ℕ} {start : Bytes} {place : ℕ} → Partly set start place start place set
 partly_none {set} {start} {place} = record { within = and_self set; done = []; wrote = wrote_nil start place; all = refl }
 
-module _ {set : ℕ} {start : Bytes} {place : ℕ} (s : Slate start) (room : FreeSlot set place (length (bundle (slot start) set)))
+module _ {set : ℕ} {start : Bytes} {place : ℕ} (s : Slots start) (room : FreeSlot set place (length (bundle (slot start) set)))
     {now : Bytes} {next rest : ℕ} (p : Partly set start place now next rest) where
   -- what is written and what is left are all
   sizes : length p.done + length (bundle (slot start) rest) ≡ length (bundle (slot start) set)
@@ -68,7 +68,7 @@ module _ {set : ℕ} {start : Bytes} {place : ℕ} (s : Slate start) (room : Fre
   short : length p.done ≤ length (bundle (slot start) set)
   short = omega (arith, sizes)
 
-  pub partly_serves : Slate now
+  pub partly_serves : Slots now
   partly_serves = room_serves room s p.wrote short
 
   same : (j : ℕ) → bit rest j ≡ 1 → slot now j ≡ slot start j
@@ -121,11 +121,11 @@ three_sizes {X} {s} {e} {t} a =
 
 -- t are those after the byte, and there is room for all
 pub record Gathering (set e t : ℕ) (start : Bytes) (place : ℕ) : Type 0 where
-  pub serves : Slate start
+  pub serves : Slots start
   pub after : After (slot start) set e t
   pub room : FreeSlot set place (length (gathered (slot start) e set))
 
-pub gathering : {set e t : ℕ} {start : Bytes} {place : ℕ} → Slate start → FreeSlot set place (length (gathered (slot start) e set)) → After (slot start) set e t
+pub gathering : {set e t : ℕ} {start : Bytes} {place : ℕ} → Slots start → FreeSlot set place (length (gathered (slot start) e set)) → After (slot start) set e t
     → Gathering set e t start place
 gathering s r a = record { serves = s; after = a; room = r }
 
@@ -155,7 +155,7 @@ module _ {set e t : ℕ} {start : Bytes} {place : ℕ} (g : Gathering set e t st
       later : bundle (slot two) t ≡ bundle (slot start) t
       later = bundle_same (slot two) (slot start) t (λ i h. room_same g.room g.serves both both_short i (sub_in t set g.after.within i h))
 
-      pub serves_after : Slate two
+      pub serves_after : Slots two
       serves_after = room_serves g.room g.serves both both_short
 
       pub room_after : FreeSlot t last (length (bundle (slot two) t))

@@ -1,5 +1,5 @@
 -- The rounds of label, one after the other, and what is left when they end.
-use Rattle.std.proofs.Common.{◌≡◌, ◌≢◌, ◌∙◌, ℕ, ◌≤◌, ◌<◌, Bool, true, false, List, refl, sym, ap, arith}
+use Rattle.std.proofs.Common.{◌≡◌, ◌≢◌, ◌∙◌, ℕ, ◌≤◌, ◌<◌, Bool, true, false, refl, sym, ap, arith}
 use native.Mathlib.Decide.{dec_lt}
 use mathlib.Core.List.{Memᴰ as Mem}
 use Rattle.bitset.specs.Bits.{bit, diff, size}
@@ -7,13 +7,14 @@ use Rattle.bitset.proofs.Laws.{member_lt, bit_past, size_empty, size_zero}
 use Rattle.molecule.specs.Lists.{Bytes, pick}
 use Rattle.molecule.specs.Record.{atoms, bonds, end_a, end_b}
 use Rattle.molecule.specs.Connected.{Own}
+use Rattle.molecule.specs.Check.{check, accepted}
 use Rattle.molecule.specs.Tree.{Formed}
 use Rattle.molecule.proofs.Accepted.{accepted_formed}
 use Rattle.molecule.proofs.Components.{own_sub}
 use Rattle.canonize.specs.Strings.{collapse}
 use Rattle.canonize.specs.Fragment.{Peel, start, round}
 use Rattle.canonize.specs.Label.{fragment, label}
-use Rattle.canonize.specs.Inner.Slate.{slot, Slate, Labels}
+use Rattle.canonize.specs.Inner.Slate.{slot, Slots, Fragment}
 use Rattle.canonize.specs.Inner.Places.{LabelAt}
 use Rattle.canonize.specs.Inner.Words.{is_tip, outer, far, strings_at, centres, Fits, Round}
 use Rattle.canonize.proofs.Fragments.{fragment_clean}
@@ -43,13 +44,13 @@ far_small r L i k h = go (is_tip r L (end_a r i))
     go true = (k.ends i h).1
     go false = (k.ends i h).0
 
-labelling_start : {r : Bytes} {at : List ℕ} {s : ℕ} → Labels r at s → (X : ℕ → Bytes) → Labelling r s s 0 X
-labelling_start {r} {s = s} w X = record {
-  formed = accepted_formed r w.formed;
+labelling_start : {r : Bytes} {s : ℕ} → check r ≡ accepted → Fragment r s → (X : ℕ → Bytes) → Labelling r s s 0 X
+labelling_start {r} {s} ok w X = record {
+  formed = accepted_formed r ok;
   own = w.own;
   z = start (fragment r s);
-  peeled = peeled_start (fragment_clean r s w.formed w.own w.connected) X;
-  small = omega (arith, (accepted_formed r w.formed).sized.count);
+  peeled = peeled_start (fragment_clean r s ok w.own w.connected) X;
+  small = omega (arith, (accepted_formed r ok).sized.count);
   centred = λ e. absurd (w.connected.some e);
 }
 
@@ -83,12 +84,12 @@ labelling_round {r} {s} {L} {now = now} w l q i h = record {
 -- ---- on the slate, of which no slot from 64 on changes until the end
 
 pub record OnSlate (r : Bytes) (s L centre : ℕ) (old now : Bytes) : Type 0 where
-  pub serves : Slate now
+  pub serves : Slots now
   pub labelling : Labelling r s L centre (slot now)
   pub above : (j : ℕ) → 64 ≤ j → slot now j ≡ slot old j
 
-pub slate_start : {r : Bytes} {at : List ℕ} {s : ℕ} → Labels r at s → {old : Bytes} → Slate old → OnSlate r s s 0 old old
-slate_start w {old} s = record { serves = s; labelling = labelling_start w (slot old); above = λ j h. refl }
+pub slate_start : {r : Bytes} {s : ℕ} → check r ≡ accepted → Fragment r s → {old : Bytes} → Slots old → OnSlate r s s 0 old old
+slate_start ok w {old} s = record { serves = s; labelling = labelling_start ok w (slot old); above = λ j h. refl }
 
 pub slate_round : {r : Bytes} {s L centre : ℕ} {old now then : Bytes} → OnSlate r s L centre old now → 1 < size L → Round r s L now then → (i : ℕ) → bit L i ≡ 1
     → OnSlate r s (diff L (outer r L)) (far r L i) old then

@@ -10,28 +10,34 @@ use Rattle.bitset.specs.Bits.{bit}
 use Rattle.bitset.proofs.Laws.{bit_le, bit-and, bit_diff, member_lt}
 use Rattle.bitset.proofs.Members.{in_or_out}
 use Rattle.molecule.specs.Lists.{Bytes}
-use Rattle.molecule.specs.Record.{end_a, end_b, code}
+use Rattle.molecule.specs.Record.{bonds, end_a, end_b, code}
 use Rattle.molecule.specs.Touch.{bonds_at}
+use Rattle.molecule.specs.Check.{check, accepted}
+use Rattle.molecule.proofs.Accepted.{accepted_formed}
 use Rattle.canonize.specs.Strings.{collapse}
-use Rattle.canonize.specs.Inner.Slate.{slot, Slate}
+use Rattle.canonize.specs.Inner.Slate.{slot, Slots}
 use Rattle.canonize.specs.Inner.Places.{Wrote, InSlot, FreeSlot, SlotIs, LabelAt}
 use Rattle.canonize.specs.Inner.Words.{received, strings_at, handed, centres}
 use Rattle.canonize.proofs.Wrapping.{length_collapse_two}
 use Rattle.canonize.proofs.Words.{strings_same}
 use Rattle.canonize.proofs.Writing.{written_part, wrote_byte, wrote_length, wrote_then, wrote_read, wrote_read_then}
-use Rattle.canonize.proofs.Slots.{inside_room, inside_slate, inside_slot}
+use Rattle.canonize.proofs.Slots.{inside_room, inside_slots, inside_slot}
+
+-- a bond's number is a slot of its own, below 64
+pub bond_slot : (r : Bytes) {i : ℕ} → check r ≡ accepted → i < bonds r → i < 64
+bond_slot r ok h = omega (arith, (accepted_formed r ok).sized.few)
 
 -- ---- a string written from the start of slot k on, and then the length of that slot
 
 -- x is written there, and end is the place after it
 pub record Begun (slate : Bytes) (k start : ℕ) (x : Bytes) (end : ℕ) (now : Bytes) : Type 0 where
-  pub serves : Slate slate
+  pub serves : Slots slate
   pub within : k < 66
   pub at : start ≡ 391 * k + 2
   pub short : length x ≤ 389
   pub wrote : Wrote slate start x end now
 
-pub begun : {slate : Bytes} {k start : ℕ} {x : Bytes} {end : ℕ} {now : Bytes} → Slate slate → k < 66 → start ≡ 391 * k + 2 → length x ≤ 389
+pub begun : {slate : Bytes} {k start : ℕ} {x : Bytes} {end : ℕ} {now : Bytes} → Slots slate → k < 66 → start ≡ 391 * k + 2 → length x ≤ 389
     → Wrote slate start x end now → Begun slate k start x end now
 begun s h e l w = record { serves = s; within = h; at = e; short = l; wrote = w }
 
@@ -42,8 +48,8 @@ module _ {slate : Bytes} {k start : ℕ} {x : Bytes} {end : ℕ} {now : Bytes} (
   room : start + length x ≤ length slate
   room = inside_room slate w.serves k start x whole
 
-  pub begun_serves : Slate now
-  begun_serves = rw w.wrote.is (inside_slate slate w.serves k start x whole)
+  pub begun_serves : Slots now
+  begun_serves = rw w.wrote.is (inside_slots slate w.serves k start x whole)
 
   pub begun_others : (j : ℕ) → j ≢ k → slot now j ≡ slot slate j
   begun_others j n = ap (λ (l : Bytes). slot l j) w.wrote.is ∙ inside_slot slate w.serves k start x whole j n
@@ -86,14 +92,14 @@ left_same r s L i h old now same v = strings_same r s L (slot old) (slot now) (�
 -- ---- bond i hands over: its code b is put first
 
 pub record Hands (r : Bytes) (s L i v : ℕ) (slate : Bytes) (start b : ℕ) : Type 0 where
-  pub serves : Slate slate
+  pub serves : Slots slate
   pub left : bit L i ≡ 1
   pub small : i < 64
   pub at : start ≡ 391 * i + 2
   pub is : b ≡ code r i
   pub fits : length (handed r s L (slot slate) i v) ≤ 389
 
-pub hands : {r : Bytes} {s L i v : ℕ} {slate : Bytes} {start b : ℕ} → Slate slate → bit L i ≡ 1 → i < 64 → start ≡ 391 * i + 2 → b ≡ code r i
+pub hands : {r : Bytes} {s L i v : ℕ} {slate : Bytes} {start b : ℕ} → Slots slate → bit L i ≡ 1 → i < 64 → start ≡ 391 * i + 2 → b ≡ code r i
     → length (handed r s L (slot slate) i v) ≤ 389 → Hands r s L i v slate start b
 hands w h l e c f = record { serves = w; left = h; small = l; at = e; is = c; fits = f }
 
@@ -107,7 +113,7 @@ module _ {r : Bytes} {s L i v : ℕ} {slate : Bytes} {start b : ℕ} (h : Hands 
     wrote = rw (← h.is) (wrote_byte slate start b (omega (arith, h.serves.wide, h.at, h.small)));
   }
 
-  pub hand_serves : Slate (set slate start b)
+  pub hand_serves : Slots (set slate start b)
   hand_serves = begun_serves first
 
   strings : strings_at r s L (slot (set slate start b)) v ≡ strings_at r s L (slot slate) v
@@ -145,7 +151,7 @@ placed_label z = record { serves = z.serves; this = z.this; others = λ j _ n. z
 -- ---- two atoms are left, the ends of bond i: their strings go to slot i first, and then, wrapped, to slot k
 
 pub record OuterEnds (r : Bytes) (s L i k : ℕ) (slate : Bytes) (from : ℕ) : Type 0 where
-  pub serves : Slate slate
+  pub serves : Slots slate
   pub left : bit L i ≡ 1
   pub small : i < 64
   pub high : 64 ≤ k
@@ -153,7 +159,7 @@ pub record OuterEnds (r : Bytes) (s L i k : ℕ) (slate : Bytes) (from : ℕ) : 
   pub at : from ≡ 391 * i + 2
   pub fits : length (centres r s L (slot slate) i) ≤ 389
 
-pub outer_ends : {r : Bytes} {s L i k : ℕ} {slate : Bytes} {from : ℕ} → Slate slate → bit L i ≡ 1 → i < 64 → 64 ≤ k → k < 66 → from ≡ 391 * i + 2
+pub outer_ends : {r : Bytes} {s L i k : ℕ} {slate : Bytes} {from : ℕ} → Slots slate → bit L i ≡ 1 → i < 64 → 64 ≤ k → k < 66 → from ≡ 391 * i + 2
     → length (centres r s L (slot slate) i) ≤ 389 → OuterEnds r s L i k slate from
 outer_ends w h l a b e f = record { serves = w; left = h; small = l; high = a; within = b; at = e; fits = f }
 
@@ -185,7 +191,7 @@ module _ {r : Bytes} {s L i k : ℕ} {slate : Bytes} {from : ℕ} (h : OuterEnds
     upper : Begun slate i from one middle then
     upper = placed (omega (arith, both_short)) w
 
-    pub first_serves : Slate then
+    pub first_serves : Slots then
     first_serves = begun_serves upper
 
     strings_two : strings_at r s L (slot then) (end_b r i) ≡ strings_at r s L (slot slate) (end_b r i)

@@ -8,7 +8,7 @@ use Rattle.molecule.specs.Record.{atoms, bonds, end_a, end_b, code}
 use Rattle.molecule.specs.Connected.{Own}
 use Rattle.molecule.specs.Tree.{Formed}
 use Rattle.canonize.specs.Strings.{collapse}
-use Rattle.canonize.specs.Inner.Slate.{slot, Slate}
+use Rattle.canonize.specs.Inner.Slate.{slot, Slots}
 use Rattle.canonize.specs.Inner.Places.{SlotIs}
 use Rattle.canonize.specs.Inner.Words.{is_tip, has_tip, outer, tip, handed, Fits, Round}
 use Rattle.canonize.proofs.Words.{outer_in, outer_has, strings_same}
@@ -33,12 +33,12 @@ next_of {rest} l w = record { member = l.member; is = rw l.is w.is }
 -- the bonds of rest are still to be passed; taken are those passed that have handed over
 pub record Rounding (r : Bytes) (s L : ℕ) (old : Bytes) (rest taken : ℕ) (now : Bytes) : Type 0 where
   pub within : Sub rest L
-  pub serves : Slate now
+  pub serves : Slots now
   pub before : (j : ℕ) → bit L j ≡ 0 → slot now j ≡ slot old j
   pub passed : (i : ℕ) → bit taken i ≡ 1 → (bit L i ≡ 1) × (bit rest i ≡ 0) × (has_tip r L i ≡ true) × (slot now i ≡ handed r s L (slot old) i (tip r L i))
   pub all : (i : ℕ) → bit L i ≡ 1 → bit rest i ≡ 0 → has_tip r L i ≡ true → bit taken i ≡ 1
 
-pub rounding_start : (r : Bytes) (s L : ℕ) (old : Bytes) → Slate old → Rounding r s L old L 0 old
+pub rounding_start : (r : Bytes) (s L : ℕ) (old : Bytes) → Slots old → Rounding r s L old L 0 old
 rounding_start r s L old w = record {
   within = sub_of L L (λ i h. h);
   serves = w;

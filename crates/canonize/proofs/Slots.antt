@@ -11,19 +11,19 @@ use Rattle.bitset.specs.Bits.{bit, Sub}
 use Rattle.bitset.proofs.Laws.{sub_bit}
 use Rattle.molecule.specs.Lists.{Bytes}
 use Rattle.molecule.proofs.Lists.{zeros_at}
-use Rattle.canonize.specs.Inner.Slate.{slot_length, slot, Slate}
+use Rattle.canonize.specs.Inner.Slate.{slot_length, slot, Slots}
 use Rattle.canonize.specs.Inner.Places.{written, Wrote, NoneShared, InSlot, FreeSlot, SlotIs}
 use Rattle.canonize.proofs.Writing.{written_set, written_length, written_at, written_part, written_then, wrote_length}
 
 -- nothing is written on a slate of zeros
-pub slate_blank : (slate : Bytes) → slate ≡ replicate 25806 0 → Slate slate
+pub slots_blank : (slate : Bytes) → slate ≡ replicate 25806 0 → Slots slate
 unfolding slot_length
-slate_blank slate e = record {
+slots_blank slate e = record {
   wide = ap length e ∙ length-replicate {A = ℕ} 25806 0;
   fits = λ i h. rw e (omega (arith, zeros_at 25806 (391 * i), zeros_at 25806 (391 * i + 1)));
 }
 
-module _ (slate : Bytes) (s : Slate slate) where
+module _ (slate : Bytes) (s : Slots slate) where
   pub slot_fits : (i : ℕ) → slot_length slate i ≤ 389
   unfolding slot_length
   slot_fits i = go (dec_lt i 66)
@@ -62,8 +62,8 @@ module _ (slate : Bytes) (s : Slate slate) where
         next (yes g) = inr (omega (arith, h.to))
         next (no g) = inl (omega (arith, h.from))
 
-    pub inside_slate : Slate (written slate place x)
-    inside_slate = record { wide = written_length slate place x inside_room ∙ s.wide; fits = λ j g. omega (arith, inside_length j, s.fits j g) }
+    pub inside_slots : Slots (written slate place x)
+    inside_slots = record { wide = written_length slate place x inside_room ∙ s.wide; fits = λ j g. omega (arith, inside_length j, s.fits j g) }
 
     pub inside_slot : (j : ℕ) → j ≢ t → slot (written slate place x) j ≡ slot slate j
     unfolding slot
@@ -160,10 +160,10 @@ module _ {set place n : ℕ} (room : FreeSlot set place n) where
           above : (j < room.slot → ⊥) → room.slot < j
           above g = elim (ℕ_discrete j room.slot) [ yes e ↦ absurd (differ e) | no m ↦ omega arith ]
 
-  pub room_ends : {slate : Bytes} → Slate slate → place + n ≤ length slate
+  pub room_ends : {slate : Bytes} → Slots slate → place + n ≤ length slate
   room_ends s = omega (arith, room.inside.within, room.inside.to, s.wide)
 
-  module _ {start : Bytes} (s : Slate start) {x : Bytes} {next : ℕ} {now : Bytes} (w : Wrote start place x next now) (short : length x ≤ n) where
+  module _ {start : Bytes} (s : Slots start) {x : Bytes} {next : ℕ} {now : Bytes} (w : Wrote start place x next now) (short : length x ≤ n) where
     inside : InSlot room.slot place (length x)
     inside = record { within = room.inside.within; from = room.inside.from; to = omega (arith, room.inside.to) }
 
@@ -171,8 +171,8 @@ module _ {set place n : ℕ} (room : FreeSlot set place n) where
     room_fits = inside_room start s room.slot place x inside
 
     -- what is written in it leaves the slate a slate, and their strings
-    pub room_serves : Slate now
-    room_serves = rw w.is (inside_slate start s room.slot place x inside)
+    pub room_serves : Slots now
+    room_serves = rw w.is (inside_slots start s room.slot place x inside)
 
     pub room_others : (j : ℕ) → j ≢ room.slot → slot now j ≡ slot start j
     room_others j h = ap (λ (l : Bytes). slot l j) w.is ∙ inside_slot start s room.slot place x inside j h

@@ -1,20 +1,19 @@
 #![tactic(auto)]
 // Labels of fragments: two fragments have equal labels exactly when an element- and bond-keeping isomorphism joins them.
 ghost use Rattle.std.specs.Prelude.{◌≡◌, not, ◌≤◌, length};
-ghost use Rattle.molecule.specs.Touch.{bonds_at_words};
-ghost use Rattle.molecule.specs.Connected.{Own, Connected};
-ghost use Rattle.molecule.specs.Check.{check, accepted};
 ghost use Rattle.canonize.specs.Label.{label};
-ghost use Rattle.canonize.specs.Inner.Slate.{Slate, Labels};
+ghost use Rattle.canonize.specs.Inner.Slate.{Fragment};
 ghost use Rattle.canonize.specs.Inner.Places.{Wrote};
 ghost use Rattle.canonize.specs.Answer.{bad_set, label_answer, buffer_after, answer_of};
 
-use molecule::{Fault, Refusal, fields, graph};
+use molecule::{Fault, Molecule, Refusal, graph};
 
 pub mod compare;
 mod peel;
-pub mod slate;
+mod slate;
 mod strings;
+
+pub use slate::Slate;
 
 // Why a label is not answered: rows 1 to 6 of document 01, the record; 13, the set; 14, the buffer.
 #[derive(Clone, Copy, Debug, PartialEq, Eq)]
@@ -57,45 +56,41 @@ impl Refusal for LabelRefusal {
     }
 }
 
-// Whether the set is a fragment of an accepted record: not empty, of its bonds, and connected.
+// Whether the set is a fragment of the molecule: not empty, of its bonds, and connected.
 #[tactic(auto, using(molecule::proofs::Accepted::accepted_formed, crate::proofs::Answers::set_empty, crate::proofs::Answers::set_outside))]
-fn is_fragment(bytes: &[u8], at: &[u64; 65], set: u64) -> bool
-    requires { (check bytes.now ≡ accepted) × (at.now ≡ bonds_at_words bytes.now) }
-    ensures { result ≡ not (bad_set bytes.now set) }
+fn is_fragment(molecule: &Molecule, set: u64) -> bool
+    ensures { result ≡ not (bad_set molecule.now.bytes.now set) }
 {
     set != 0
-        && bitset::is_subset(set, bitset::first_n(fields::bonds(bytes) as u32))
-        && graph::is_connected(&graph::touching_from(bytes, at), set)
+        && bitset::is_subset(set, bitset::first_n(molecule.bonds() as u32))
+        && graph::is_connected(&molecule.touch, set)
 }
 
-// The label of set is kept, and goes to the front of out; the answer is its length.
-#[tactic(auto, using(crate::proofs::Slots::kept_short), unfolding(crate::specs::Inner::Slate::kept))]
-fn label_out(bytes: &[u8], at: &[u64; 65], set: u64, page: &mut [u8], out: &mut [u8]) -> usize
-    requires { Labels bytes.now at.now set × Slate page.old × (389 ≤ length out.old) }
-    ensures { Wrote out.old 0 (label bytes.now set) result out.new }
+// The label of set goes to the front of out; the answer is its length.
+fn label_out(molecule: &Molecule, set: u64, out: &mut [u8]) -> usize
+    requires { Fragment molecule.now.bytes.now set × (389 ≤ length out.old) }
+    ensures { Wrote out.old 0 (label molecule.now.bytes.now set) result out.new }
 {
-    slate::keep(bytes, at, set, page);
-    let x = strings::string(page, 64);
+    let mut slate = Slate::new();
+    slate.keep(molecule, set);
+    let x = slate.label();
     strings::put(out, x);
     x.len()
 }
 
-// label of an accepted record.
-#[tactic(auto, using(molecule::proofs::Accepted::accepted_formed, crate::proofs::Answers::good_set))]
-fn label_accepted(bytes: &[u8], set: u64, out: &mut [u8]) -> Result<usize, LabelRefusal>
-    requires { check bytes.now ≡ accepted }
-    ensures answer { answer_of result ≡ label_answer bytes.now set out.old }
-    ensures buffer { out.new ≡ buffer_after bytes.now set out.old }
+// label of a molecule.
+#[tactic(auto, using(crate::proofs::Answers::good_set))]
+fn label_accepted(molecule: &Molecule, set: u64, out: &mut [u8]) -> Result<usize, LabelRefusal>
+    ensures answer { answer_of result ≡ label_answer molecule.now.bytes.now set out.old }
+    ensures buffer { out.new ≡ buffer_after molecule.now.bytes.now set out.old }
 {
-    let at = graph::bonds_at(bytes);
-    if !is_fragment(bytes, &at, set) {
+    if !is_fragment(molecule, set) {
         return Err(LabelRefusal::Set);
     }
     if out.len() < 389 {
         return Err(LabelRefusal::Buffer);
     }
-    let mut page = slate::blank();
-    Ok(label_out(bytes, &at, set, &mut page, out))
+    Ok(label_out(molecule, set, out))
 }
 
 // The label of a set of bonds of a record goes to the front of the buffer: its length.
@@ -103,6 +98,6 @@ pub fn label(bytes: &[u8], set: u64, out: &mut [u8]) -> Result<usize, LabelRefus
     ensures answer { answer_of result ≡ label_answer bytes.now set out.old }
     ensures buffer { out.new ≡ buffer_after bytes.now set out.old }
 {
-    molecule::check(bytes)?;
-    label_accepted(bytes, set, out)
+    let molecule = Molecule::read(bytes)?;
+    label_accepted(&molecule, set, out)
 }

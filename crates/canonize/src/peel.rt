@@ -1,38 +1,37 @@
 // Peeling a fragment by words: the set of the bonds left, and in a slot of its own the string that each bond taken off handed over.
+// The slate is lent as its bytes (strings.rt says why).
 ghost use Rattle.std.specs.Prelude.{◌≡◌, true, false, MatchOption, [], ◌∷◌, ◌+◌, ◌-◌, ◌^◌, ◌≤◌, ◌<◌, length, take, drop};
 ghost use Rattle.bitset.specs.Bits.{bit};
 ghost use Rattle.molecule.specs.Record.{atoms, bonds};
-ghost use Rattle.molecule.specs.Touch.{bonds_at_words};
 ghost use Rattle.molecule.specs.Connected.{Own};
-ghost use Rattle.molecule.specs.Tree.{Formed};
 ghost use Rattle.canonize.specs.Strings.{collapse};
-ghost use Rattle.canonize.specs.Inner.Slate.{slot, Slate};
+ghost use Rattle.canonize.specs.Inner.Slate.{slot, Slots};
 ghost use Rattle.canonize.specs.Inner.Places.{Wrote, FreeSlot, SlotIs, LabelAt};
 ghost use Rattle.canonize.specs.Inner.Words.{is_tip, has_tip, tip, outer, far, received, strings_at, handed, centres, Fits, Round};
 
 use crate::{compare, strings};
-use molecule::fields;
+use molecule::Molecule;
 
 // Whether atom v has one bond of left.
 #[tactic(auto, using(molecule::proofs::Words::atoms_at), unfolding(crate::specs::Inner::Words::is_tip))]
-fn is_tip(bytes: &[u8], at: &[u64; 65], left: u64, v: usize) -> bool
-    requires { (at.now ≡ bonds_at_words bytes.now) × (v < 65) }
-    ensures { result ≡ is_tip bytes.now left v }
+fn is_tip(molecule: &Molecule, left: u64, v: usize) -> bool
+    requires { v < 65 }
+    ensures { result ≡ is_tip molecule.now.bytes.now left v }
 {
-    bitset::size(bitset::common(at[v], left)) == 1
+    bitset::size(bitset::common(molecule.at[v], left)) == 1
 }
 
 // The end of bond i that is an end atom of left.
-#[tactic(auto, unfolding(crate::specs::Inner::Words::tip))]
-fn tip(bytes: &[u8], at: &[u64; 65], left: u64, i: u32) -> Option<usize>
-    requires { Formed bytes.now × (at.now ≡ bonds_at_words bytes.now) × (i < bonds bytes.now) }
-    ensures { MatchOption result (has_tip bytes.now left i ≡ false) (λ v. (has_tip bytes.now left i ≡ true) × (v ≡ tip bytes.now left i)) }
+#[tactic(auto, using(molecule::proofs::Accepted::accepted_formed), unfolding(crate::specs::Inner::Words::tip))]
+fn tip(molecule: &Molecule, left: u64, i: u32) -> Option<usize>
+    requires { i < bonds molecule.now.bytes.now }
+    ensures { MatchOption result (has_tip molecule.now.bytes.now left i ≡ false)
+        (λ v. (has_tip molecule.now.bytes.now left i ≡ true) × (v ≡ tip molecule.now.bytes.now left i)) }
 {
-    let u = fields::end_a(bytes, i as usize);
-    let v = fields::end_b(bytes, i as usize);
-    if is_tip(bytes, at, left, u) {
+    let (u, v) = molecule.ends(i as usize);
+    if is_tip(molecule, left, u) {
         Some(u)
-    } else if is_tip(bytes, at, left, v) {
+    } else if is_tip(molecule, left, v) {
         Some(v)
     } else {
         None
@@ -40,47 +39,47 @@ fn tip(bytes: &[u8], at: &[u64; 65], left: u64, i: u32) -> Option<usize>
 }
 
 // Puts the collapsed strings of atom v.
-#[tactic(auto, using(molecule::proofs::Words::atoms_at), unfolding(crate::specs::Inner::Words::received, crate::specs::Inner::Words::strings_at))]
+#[tactic(auto, using(molecule::proofs::Accepted::accepted_formed, molecule::proofs::Words::atoms_at), unfolding(crate::specs::Inner::Words::received, crate::specs::Inner::Words::strings_at))]
 fn put_atom(
-    bytes: &[u8],
-    at: &[u64; 65],
+    molecule: &Molecule,
     s: u64,
     left: u64,
     v: usize,
     slate: &mut [u8],
     place: usize,
 ) -> usize
-    requires { Formed bytes.now × (at.now ≡ bonds_at_words bytes.now) × (v < atoms bytes.now) × Slate slate.old
-        × FreeSlot (received bytes.now s left v) place (length (collapse (strings_at bytes.now s left (slot slate.old) v))) }
-    ensures { Wrote slate.old place (collapse (strings_at bytes.now s left (slot slate.old) v)) result slate.new }
+    requires { (v < atoms molecule.now.bytes.now) × Slots slate.old
+        × FreeSlot (received molecule.now.bytes.now s left v) place (length (collapse (strings_at molecule.now.bytes.now s left (slot slate.old) v))) }
+    ensures { Wrote slate.old place (collapse (strings_at molecule.now.bytes.now s left (slot slate.old) v)) result slate.new }
 {
-    let set = bitset::difference(bitset::common(at[v], s), left);
-    strings::put_collapsed(slate, set, fields::element(bytes, v), place)
+    let set = bitset::difference(bitset::common(molecule.at[v], s), left);
+    strings::put_collapsed(slate, set, molecule.element(v), place)
 }
 
 // Bond i of left hands over from its end v: its bond code and the collapsed strings of v become the string of slot i.
-fn hand_over(bytes: &[u8], at: &[u64; 65], s: u64, left: u64, i: u32, v: usize, slate: &mut [u8])
-    requires { Formed bytes.now × (at.now ≡ bonds_at_words bytes.now) × (i < bonds bytes.now) × (v < atoms bytes.now) × Slate slate.old
-        × (bit left i ≡ 1) × (length (handed bytes.now s left (slot slate.old) i v) ≤ 389) }
-    ensures { SlotIs slate.old i (handed bytes.now s left (slot slate.old) i v) slate.new }
+#[tactic(auto, using(molecule::proofs::Accepted::accepted_formed))]
+fn hand_over(molecule: &Molecule, s: u64, left: u64, i: u32, v: usize, slate: &mut [u8])
+    requires { (i < bonds molecule.now.bytes.now) × (v < atoms molecule.now.bytes.now) × Slots slate.old
+        × (bit left i ≡ 1) × (length (handed molecule.now.bytes.now s left (slot slate.old) i v) ≤ 389) }
+    ensures { SlotIs slate.old i (handed molecule.now.bytes.now s left (slot slate.old) i v) slate.new }
 {
     let k = i as usize;
     let start = strings::start(k);
-    slate[start] = fields::code(bytes, k);
-    let end = put_atom(bytes, at, s, left, v, slate, start + 1);
+    slate[start] = molecule.code(k);
+    let end = put_atom(molecule, s, left, v, slate, start + 1);
     strings::set_length(slate, k, end - start);
 }
 
 // A round: the bonds of left that have an end atom hand over, and are the answer.
-pub fn round(bytes: &[u8], at: &[u64; 65], s: u64, left: u64, slate: &mut [u8]) -> u64
-    requires { Formed bytes.now × (at.now ≡ bonds_at_words bytes.now) × Own bytes.now left × Slate slate.old
-        × Fits bytes.now s left (slot slate.old) }
-    ensures { (result ≡ outer bytes.now left) × Round bytes.now s left slate.old slate.new }
+pub fn round(molecule: &Molecule, s: u64, left: u64, slate: &mut [u8]) -> u64
+    requires { Own molecule.now.bytes.now left × Slots slate.old
+        × Fits molecule.now.bytes.now s left (slot slate.old) }
+    ensures { (result ≡ outer molecule.now.bytes.now left) × Round molecule.now.bytes.now s left slate.old slate.new }
 {
     let mut taken = 0;
     for i in bitset::ascending(left) {
-        if let Some(v) = tip(bytes, at, left, i) {
-            hand_over(bytes, at, s, left, i, v, slate);
+        if let Some(v) = tip(molecule, left, i) {
+            hand_over(molecule, s, left, i, v, slate);
             taken = bitset::insert(taken, i);
         }
     }
@@ -88,32 +87,23 @@ pub fn round(bytes: &[u8], at: &[u64; 65], s: u64, left: u64, slate: &mut [u8]) 
 }
 
 // The other end of bond i, where one of its ends is an end atom of left.
-#[tactic(auto, unfolding(crate::specs::Inner::Words::far))]
-pub fn far_end(bytes: &[u8], at: &[u64; 65], left: u64, i: u32) -> usize
-    requires { Formed bytes.now × (at.now ≡ bonds_at_words bytes.now) × (i < bonds bytes.now) }
-    ensures { result ≡ far bytes.now left i }
+#[tactic(auto, using(molecule::proofs::Accepted::accepted_formed), unfolding(crate::specs::Inner::Words::far))]
+pub fn far_end(molecule: &Molecule, left: u64, i: u32) -> usize
+    requires { i < bonds molecule.now.bytes.now }
+    ensures { result ≡ far molecule.now.bytes.now left i }
 {
-    let u = fields::end_a(bytes, i as usize);
-    let v = fields::end_b(bytes, i as usize);
-    if is_tip(bytes, at, left, u) { v } else { u }
+    let (u, v) = molecule.ends(i as usize);
+    if is_tip(molecule, left, u) { v } else { u }
 }
 
 // One atom left, v: its collapsed strings become the string of slot k.
-pub fn put_centre(
-    bytes: &[u8],
-    at: &[u64; 65],
-    s: u64,
-    left: u64,
-    v: usize,
-    slate: &mut [u8],
-    k: usize,
-)
-    requires { Formed bytes.now × (at.now ≡ bonds_at_words bytes.now) × (v < atoms bytes.now) × Slate slate.old × (64 ≤ k) × (k < 66)
-        × (length (collapse (strings_at bytes.now s left (slot slate.old) v)) ≤ 389) }
-    ensures { LabelAt slate.old k (collapse (strings_at bytes.now s left (slot slate.old) v)) slate.new }
+pub fn put_centre(molecule: &Molecule, s: u64, left: u64, v: usize, slate: &mut [u8], k: usize)
+    requires { (v < atoms molecule.now.bytes.now) × Slots slate.old × (64 ≤ k) × (k < 66)
+        × (length (collapse (strings_at molecule.now.bytes.now s left (slot slate.old) v)) ≤ 389) }
+    ensures { LabelAt slate.old k (collapse (strings_at molecule.now.bytes.now s left (slot slate.old) v)) slate.new }
 {
     let start = strings::start(k);
-    let end = put_atom(bytes, at, s, left, v, slate, start);
+    let end = put_atom(molecule, s, left, v, slate, start);
     strings::set_length(slate, k, end - start);
 }
 
@@ -136,25 +126,19 @@ fn put_two(slate: &mut [u8], from: usize, middle: usize, end: usize, place: usiz
 
 // Two atoms left, the ends of bond i: its bond code, and their collapsed strings, wrapped, the smaller first, become the string of slot k.
 // Those strings are put into the slot of bond i first, which has handed over nothing.
-pub fn put_centres(
-    bytes: &[u8],
-    at: &[u64; 65],
-    s: u64,
-    left: u64,
-    i: u32,
-    slate: &mut [u8],
-    k: usize,
-)
-    requires { Formed bytes.now × (at.now ≡ bonds_at_words bytes.now) × (i < bonds bytes.now) × Slate slate.old × (64 ≤ k) × (k < 66)
-        × (bit left i ≡ 1) × (length (centres bytes.now s left (slot slate.old) i) ≤ 389) }
-    ensures { LabelAt slate.old k (centres bytes.now s left (slot slate.old) i) slate.new }
+#[tactic(auto, using(molecule::proofs::Accepted::accepted_formed))]
+pub fn put_centres(molecule: &Molecule, s: u64, left: u64, i: u32, slate: &mut [u8], k: usize)
+    requires { (i < bonds molecule.now.bytes.now) × Slots slate.old × (64 ≤ k) × (k < 66)
+        × (bit left i ≡ 1) × (length (centres molecule.now.bytes.now s left (slot slate.old) i) ≤ 389) }
+    ensures { LabelAt slate.old k (centres molecule.now.bytes.now s left (slot slate.old) i) slate.new }
 {
     let b = i as usize;
+    let (u, v) = molecule.ends(b);
     let from = strings::start(b);
-    let middle = put_atom(bytes, at, s, left, fields::end_a(bytes, b), slate, from);
-    let end = put_atom(bytes, at, s, left, fields::end_b(bytes, b), slate, middle);
+    let middle = put_atom(molecule, s, left, u, slate, from);
+    let end = put_atom(molecule, s, left, v, slate, middle);
     let start = strings::start(k);
-    slate[start] = fields::code(bytes, b);
+    slate[start] = molecule.code(b);
     let last = put_two(slate, from, middle, end, start + 1);
     strings::set_length(slate, k, last - start);
 }

@@ -1,8 +1,9 @@
 // Strings in slots of the slate: their lengths, their order, and collapsing them.
+// They take the slate's bytes and not a Slate: their contracts say which bytes are written at which place, and a Slate is seen as its kept label alone.
 ghost use Rattle.std.specs.Prelude.{◌≡◌, [], ◌∷◌, map, ◌+◌, ◌*◌, ◌≤◌, ◌<◌, length, take, drop};
 ghost use Rattle.bitset.specs.Bits.{members};
 ghost use Rattle.canonize.specs.Strings.{lex_le, wrap, sort, join, collapse};
-ghost use Rattle.canonize.specs.Inner.Slate.{slot_length, slot, Slate};
+ghost use Rattle.canonize.specs.Inner.Slate.{slot_length, slot, Slots};
 ghost use Rattle.canonize.specs.Inner.Places.{Wrote, NoneShared, FreeSlot, SlotIs, Least, After};
 
 use crate::compare;
@@ -18,7 +19,7 @@ pub fn start(i: usize) -> usize
 // How long the string of slot i is.
 #[tactic(auto, unfolding(crate::specs::Inner::Slate::slot_length))]
 pub fn slot_length(slate: &[u8], i: usize) -> usize
-    requires { Slate slate.now × (i < 66) }
+    requires { Slots slate.now × (i < 66) }
     ensures { (result ≡ slot_length slate.now i) × (result ≤ 389) }
 {
     let low = usize::from(slate[391 * i]);
@@ -29,7 +30,7 @@ pub fn slot_length(slate: &[u8], i: usize) -> usize
 // The string of slot i.
 #[tactic(auto, unfolding(crate::specs::Inner::Slate::slot))]
 pub fn string(slate: &[u8], i: usize) -> &[u8]
-    requires { Slate slate.now × (i < 66) }
+    requires { Slots slate.now × (i < 66) }
     ensures { result.now ≡ slot slate.now i }
 {
     let from = start(i);
@@ -38,7 +39,7 @@ pub fn string(slate: &[u8], i: usize) -> &[u8]
 
 // The n bytes that stand in slot i become its string.
 pub fn set_length(slate: &mut [u8], i: usize, n: usize)
-    requires { Slate slate.old × (i < 66) × (n ≤ 389) }
+    requires { Slots slate.old × (i < 66) × (n ≤ 389) }
     ensures { SlotIs slate.old i (take n (drop (391 * i + 2) slate.old)) slate.new }
 {
     slate[391 * i] = (n % 256) as u8;
@@ -79,7 +80,7 @@ pub fn put_wrapped(slate: &mut [u8], from: usize, n: usize, place: usize) -> usi
 // Puts the string of slot i, wrapped.
 #[tactic(auto, using(crate::proofs::Wrapping::length_wrap, crate::proofs::Slots::slot_length_lem), unfolding(crate::specs::Inner::Slate::slot))]
 fn put_slot(slate: &mut [u8], i: u32, place: usize) -> usize
-    requires { Slate slate.old × (i < 64) × NoneShared (391 * i) 391 place (length (wrap (slot slate.old i)))
+    requires { Slots slate.old × (i < 64) × NoneShared (391 * i) 391 place (length (wrap (slot slate.old i)))
         × (place + length (wrap (slot slate.old i)) ≤ length slate.old) }
     ensures { Wrote slate.old place (wrap (slot slate.old i)) result slate.new }
 {
@@ -89,8 +90,8 @@ fn put_slot(slate: &mut [u8], i: u32, place: usize) -> usize
 }
 
 // Whether the string of slot i comes before that of slot j, or is equal to it.
-pub fn slot_before(slate: &[u8], i: usize, j: usize) -> bool
-    requires { Slate slate.now × (i < 66) × (j < 66) }
+fn slot_before(slate: &[u8], i: usize, j: usize) -> bool
+    requires { Slots slate.now × (i < 66) × (j < 66) }
     ensures { result ≡ lex_le (slot slate.now i) (slot slate.now j) }
 {
     compare::less_or_equal(string(slate, i), string(slate, j))
@@ -98,7 +99,7 @@ pub fn slot_before(slate: &[u8], i: usize, j: usize) -> bool
 
 // The slot of the set whose string comes before all the others' or is equal to them.
 fn least(slate: &[u8], set: u64) -> u32
-    requires { Slate slate.now × (0 < set) }
+    requires { Slots slate.now × (0 < set) }
     ensures { Least (slot slate.now) set result }
 {
     let mut best = bitset::lowest(set);
@@ -112,7 +113,7 @@ fn least(slate: &[u8], set: u64) -> u32
 
 // Puts the strings of the slots of the set, sorted, each wrapped.
 fn put_sorted(slate: &mut [u8], set: u64, place: usize) -> usize
-    requires { Slate slate.old × FreeSlot set place (length (join (sort (map (slot slate.old) (members set))))) }
+    requires { Slots slate.old × FreeSlot set place (length (join (sort (map (slot slate.old) (members set))))) }
     ensures { Wrote slate.old place (join (sort (map (slot slate.old) (members set)))) result slate.new }
 {
     let mut next = place;
@@ -128,7 +129,7 @@ fn put_sorted(slate: &mut [u8], set: u64, place: usize) -> usize
 
 // The slots of the set whose strings the one byte e comes before, or is equal to.
 fn after_byte(slate: &[u8], set: u64, e: u8) -> u64
-    requires { Slate slate.now }
+    requires { Slots slate.now }
     ensures { After (slot slate.now) set e result }
 {
     let mut after = 0;
@@ -154,7 +155,7 @@ fn put_byte(slate: &mut [u8], e: u8, place: usize) -> usize
 
 // Puts the collapsed strings of an atom: the one byte e, and the strings of the slots of the set.
 pub fn put_collapsed(slate: &mut [u8], set: u64, e: u8, place: usize) -> usize
-    requires { Slate slate.old × FreeSlot set place (length (collapse ((e ∷ []) ∷ map (slot slate.old) (members set)))) }
+    requires { Slots slate.old × FreeSlot set place (length (collapse ((e ∷ []) ∷ map (slot slate.old) (members set)))) }
     ensures { Wrote slate.old place (collapse ((e ∷ []) ∷ map (slot slate.old) (members set))) result slate.new }
 {
     let after = after_byte(slate, set, e);

@@ -39,22 +39,6 @@ pub fn ends(bytes: &[u8], i: usize) -> (usize, usize)
     )
 }
 
-// The first end of bond i.
-pub fn end_a(bytes: &[u8], i: usize) -> usize
-    requires { RightCounts bytes.now × (i < bonds bytes.now) }
-    ensures { result ≡ end_a bytes.now i }
-{
-    ends(bytes, i).0
-}
-
-// The second end of bond i.
-pub fn end_b(bytes: &[u8], i: usize) -> usize
-    requires { RightCounts bytes.now × (i < bonds bytes.now) }
-    ensures { result ≡ end_b bytes.now i }
-{
-    ends(bytes, i).1
-}
-
 // The bond code of bond i.
 pub fn code(bytes: &[u8], i: usize) -> u8
     requires { RightCounts bytes.now × (i < bonds bytes.now) }

@@ -7,20 +7,23 @@ use Rattle.canonize.proofs.label_accepted.Goals as goal
 pub returns-then-not-is_fragment : goal.returns-then-not-is_fragment
 returns-then-not-is_fragment c =
     let a = c.args in
-    let v = set_row a.bytes.now a.set a.out.now c.requires (not-false _ (sym c.if-not-is_fragment.ensures)) in
-    let w = answer_refused a.bytes.now a.set a.out.now 13 0 v in
+    let m = a.molecule.now in
+    let v = set_row m.bytes.now a.set a.out.now m.accepted (not-false _ (sym c.if-not-is_fragment.ensures)) in
+    let w = answer_refused m.bytes.now a.set a.out.now 13 0 v in
     record { answer = w.0; buffer = w.1 }
 
 pub returns-then-out-lt389 : goal.returns-then-out-lt389
 returns-then-out-lt389 c =
     let a = c.args in
-    let v = buffer_row a.bytes.now a.set a.out.now c.requires (not-true _ (sym c.if-not-is_fragment.ensures)) c.if-out-lt389.true in
-    let w = answer_refused a.bytes.now a.set a.out.now 14 0 v in
+    let m = a.molecule.now in
+    let v = buffer_row m.bytes.now a.set a.out.now m.accepted (not-true _ (sym c.if-not-is_fragment.ensures)) c.if-out-lt389.true in
+    let w = answer_refused m.bytes.now a.set a.out.now 14 0 v in
     record { answer = w.0; buffer = w.1 }
 
 pub returns : goal.returns
 returns c =
     let a = c.args in
-    let v = no_row a.bytes.now a.set a.out.now c.requires (not-true _ (sym c.if-not-is_fragment.ensures)) c.if-out-lt389.false in
-    let w = answer_label a.bytes.now a.set a.out.now v _ _ c.label_out.ensures in
+    let m = a.molecule.now in
+    let v = no_row m.bytes.now a.set a.out.now m.accepted (not-true _ (sym c.if-not-is_fragment.ensures)) c.if-out-lt389.false in
+    let w = answer_label m.bytes.now a.set a.out.now v _ _ c.label_out.ensures in
     record { answer = w.0; buffer = w.1 }

@@ -3,7 +3,7 @@ use Rattle.std.specs.Prelude.{◌≡◌, ◌⊎◌, ◌≢◌, true, false, [], 
 use Rattle.bitset.specs.Bits.{bit, Sub}
 use Rattle.molecule.specs.Lists.{Bytes}
 use Rattle.canonize.specs.Strings.{lex_le}
-use Rattle.canonize.specs.Inner.Slate.{slot, Slate}
+use Rattle.canonize.specs.Inner.Slate.{slot, Slots}
 
 -- out with x at a place
 unfoldable pub written : Bytes → ℕ → Bytes → Bytes
@@ -32,13 +32,13 @@ pub record FreeSlot (set place n : ℕ) : Type 0 where
 
 -- the slate was old and is now, with x as the string of slot i
 pub record SlotIs (old : Bytes) (i : ℕ) (x now : Bytes) : Type 0 where
-  pub serves : Slate now
+  pub serves : Slots now
   pub this : slot now i ≡ x
   pub others : (j : ℕ) → j ≢ i → slot now j ≡ slot old j
 
 -- x is the string of slot k, and no other slot from 64 on has changed
 pub record LabelAt (old : Bytes) (k : ℕ) (x now : Bytes) : Type 0 where
-  pub serves : Slate now
+  pub serves : Slots now
   pub this : slot now k ≡ x
   pub others : (j : ℕ) → 64 ≤ j → j ≢ k → slot now j ≡ slot old j
 

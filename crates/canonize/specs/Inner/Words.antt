@@ -7,7 +7,7 @@ use Rattle.molecule.specs.Record.{bonds, element, end_a, end_b, code}
 use Rattle.molecule.specs.Touch.{bonds_at}
 use Rattle.canonize.specs.Strings.{collapse}
 use Rattle.canonize.specs.Fragment.{own_string}
-use Rattle.canonize.specs.Inner.Slate.{slot, Slate}
+use Rattle.canonize.specs.Inner.Slate.{slot, Slots}
 
 module _ (r : Bytes) where
   -- atom v is an end atom of L: one bond of L is at it
@@ -50,6 +50,6 @@ Fits r s L X = (i : ℕ) → bit (outer r L) i ≡ 1 → length (handed r s L X 
 
 -- the slate after a round: each bond taken off has handed over, the slots of bonds that are not left are as they were
 pub record Round (r : Bytes) (s L : ℕ) (old now : Bytes) : Type 0 where
-  pub serves : Slate now
+  pub serves : Slots now
   pub before : (j : ℕ) → bit L j ≡ 0 → slot now j ≡ slot old j
   pub taken : (i : ℕ) → bit (outer r L) i ≡ 1 → slot now i ≡ handed r s L (slot old) i (tip r L i)

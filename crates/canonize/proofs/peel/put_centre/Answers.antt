@@ -7,15 +7,15 @@ pub put_atom-end-requires : goal.put_atom-end-requires
 put_atom-end-requires c =
     let a = c.args in
     let p = c.requires in
-    (p.0, p.1, p.2, p.3, centre_room a.bytes.now a.s a.left a.v a.k c.start-start.result _ (omega arith) p.4 p.5 c.start-start.ensures p.6)
+    (p.0, p.1, centre_room a.molecule.now.bytes.now a.s a.left a.v a.k c.start-start.result _ (omega arith) p.2 p.3 c.start-start.ensures p.4)
 
 pub set_length-requires : goal.set_length-requires
 set_length-requires c =
     let p = c.requires in
-    let w = begun p.3 p.5 c.start-start.ensures p.6 c.put_atom-end.ensures in
+    let w = begun p.1 p.3 c.start-start.ensures p.4 c.put_atom-end.ensures in
     (begun_serves w, w.within, (begun_short w).1)
 
 pub returns : goal.returns
 returns c =
     let p = c.requires in
-    placed_label (begun_placed (begun p.3 p.5 c.start-start.ensures p.6 c.put_atom-end.ensures) c.set_length.ensures)
+    placed_label (begun_placed (begun p.1 p.3 c.start-start.ensures p.4 c.put_atom-end.ensures) c.set_length.ensures)
