@@ -14,6 +14,7 @@ use Rattle.molecule.specs.Record.{bonds, end_a, end_b, code}
 use Rattle.molecule.specs.Touch.{bonds_at}
 use Rattle.molecule.specs.Check.{check, accepted}
 use Rattle.molecule.proofs.Accepted.{accepted_formed}
+use Rattle.molecule.proofs.Words.{atoms_at}
 use Rattle.canonize.specs.Strings.{collapse}
 use Rattle.canonize.specs.Inner.Slate.{slot, Slots}
 use Rattle.canonize.specs.Inner.Places.{Wrote, InSlot, FreeSlot, SlotIs, LabelAt}
@@ -22,6 +23,9 @@ use Rattle.canonize.proofs.Wrapping.{length_collapse_two}
 use Rattle.canonize.proofs.Words.{strings_same}
 use Rattle.canonize.proofs.Writing.{written_part, wrote_byte, wrote_length, wrote_then, wrote_read, wrote_read_then}
 use Rattle.canonize.proofs.Slots.{inside_room, inside_slots, inside_slot}
+
+-- what a function at an atom needs: the record is formed, and the word at an atom is the bonds there
+pub ruleset at_atom = (accepted_formed, atoms_at)
 
 -- a bond's number is a slot of its own, below 64
 pub bond_slot : (r : Bytes) {i : ℕ} → check r ≡ accepted → i < bonds r → i < 64

@@ -1,5 +1,6 @@
 // Peeling a fragment by words: the set of the bonds left, and in a slot of its own the string that each bond taken off handed over.
-// The slate is lent as its bytes (strings.rt says why).
+// The slate is lent as its bytes (strings.rt says why). A molecule, a set s and what is left of it stay three arguments: a struct of them would
+// hold the reference, and each clause would name the record through it, as self.now.molecule.now.bytes.now.
 ghost use Rattle.std.specs.Prelude.{◌≡◌, true, false, MatchOption, [], ◌∷◌, ◌+◌, ◌-◌, ◌^◌, ◌≤◌, ◌<◌, length, take, drop};
 ghost use Rattle.bitset.specs.Bits.{bit};
 ghost use Rattle.molecule.specs.Record.{atoms, bonds};
@@ -39,7 +40,7 @@ fn tip(molecule: &Molecule, left: u64, i: u32) -> Option<usize>
 }
 
 // Puts the collapsed strings of atom v.
-#[tactic(auto, using(molecule::proofs::Accepted::accepted_formed, molecule::proofs::Words::atoms_at), unfolding(crate::specs::Inner::Words::received, crate::specs::Inner::Words::strings_at))]
+#[tactic(auto, using(crate::proofs::Putting::at_atom), unfolding(crate::specs::Inner::Words::received, crate::specs::Inner::Words::strings_at))]
 fn put_atom(
     molecule: &Molecule,
     s: u64,
