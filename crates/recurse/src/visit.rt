@@ -37,8 +37,8 @@ pub enum Halt {
 }
 
 // A state that is entered goes on or is stopped, with what is carried then.
-#[derive(Clone, Copy, Debug, PartialEq, Eq)]
-pub enum Gate {
+#[derive(Clone, Copy)]
+enum Gate {
     Goes(Run),
     Stops(Run),
 }

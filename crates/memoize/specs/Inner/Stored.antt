@@ -2,7 +2,8 @@
 -- 32 to 63 the hashes of the sets' labels, 64 how many pieces, 65 how many removals, 66 the index, 67 the sum of the hashes,
 -- 68 one more than the entry before it in its bucket, 0 for none. Word 69 is of bucket i: one more than its last entry, 0 for none.
 -- An entry's bucket is its sum modulo the number of entries that have room. The entry of a state that asks is laid out alike, in 80 words of its own.
-use Rattle.std.specs.Prelude.{◌≡◌, ◌≢◌, true, false, List, [], ◌∷◌, map, ℕ, zero, suc, ◌+◌, ◌*◌, ◌/◌, ◌%◌, ◌≤◌, ◌<◌, Option, Some, None, Result, Ok, Err, length, get_or, take, drop, eqb}
+use Rattle.std.specs.Prelude.{◌≡◌, ◌≢◌, true, false, List, [], ◌∷◌, map, ℕ, zero, suc, ◌+◌, ◌*◌, ◌/◌, ◌%◌, ◌≤◌, ◌<◌, length, get_or, take, drop, eqb}
+use Rattle.std.specs.Prelude.{Option, Some, None, Result, Ok, Err}
 use Rattle.bitset.specs.Bits.{bit}
 use Rattle.molecule.specs.Lists.{Bytes}
 use Rattle.canonize.specs.Strings.{sort, hash}
