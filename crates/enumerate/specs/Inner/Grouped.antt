@@ -28,7 +28,8 @@ pub record Keyed (r : Bytes) (gs : List Group) : Type 0 where
 pub record Grouped (r : Bytes) (parts : List ℕ) (p : ℕ) (l : List ℕ) (n : ℕ) (gs : List Group) : Type 0 where
   pub few : length gs ≤ n
   pub keyed : Keyed r gs
-  pub chains : (k : ℕ) → k < length gs → Threaded parts p l n (get_or parts (4 * p + k) 0) (group_at gs k).sets (get_or parts (6 * p + get_or parts (4 * p + k) 0) 0)
+  pub chains : (k : ℕ) → k < length gs
+      → Threaded parts p l n (get_or parts (4 * p + k) 0) (group_at gs k).sets (get_or parts (6 * p + get_or parts (4 * p + k) 0) 0)
 
 -- the table holds the candidates l, fragments of the record, and has room for their groups
 pub record Groupable (r : Bytes) (parts : List ℕ) (p : ℕ) (l : List ℕ) : Type 0 where
