@@ -1,9 +1,9 @@
 -- Document 01, 'Answers and turned-back records': rows 9 and 10, as the table's builder answers them.
-use Rattle.std.specs.Prelude.{ℕ, length}
+use Rattle.std.specs.Prelude.{ℕ, length, Result, Ok, Err}
 use Rattle.molecule.specs.Lists.{Bytes}
 use Rattle.molecule.specs.Check.{accepted, refused}
-use Rattle.tabulate.specs.declared.build.Built.{Built}
-use Rattle.tabulate.specs.declared.build.Built.TheVariants.{Count, Parts, Pairs}
+use Rattle.tabulate.specs.declared.build.Full.{Full}
+use Rattle.tabulate.specs.declared.build.Full.TheVariants.{Parts, Pairs}
 use Rattle.matches.specs.Table.{match_table}
 use Rattle.matches.specs.Rows.{table_answer}
 
@@ -19,8 +19,16 @@ build_answer r parts pairs = elim (table_answer (match_table r) parts pairs) [
   | refused k p ↦ turned_back k p
 ]
 
--- what build's enum says in document 01's numbers and values
-abbrev pub answer_of : Built → TableAnswer
-answer_of (Count n) = counted n
-answer_of (Parts k) = turned_back 9 k
-answer_of (Pairs n) = turned_back 10 n
+-- a refusal's row of document 01, and its place
+abbrev pub full_number : Full → ℕ
+full_number (Parts k) = 9
+full_number (Pairs n) = 10
+
+abbrev pub full_place : Full → ℕ
+full_place (Parts k) = k
+full_place (Pairs n) = n
+
+-- what build's result says in document 01's numbers and values
+abbrev pub answer_of : Result ℕ Full → TableAnswer
+answer_of (Ok n) = counted n
+answer_of (Err f) = turned_back (full_number f) (full_place f)

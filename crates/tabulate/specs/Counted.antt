@@ -1,11 +1,11 @@
 -- Document 01, 'Answers and turned-back records': rows 1 to 6, then 9 and 10, as `count` answers them, and what it leaves in the lent tables.
-use Rattle.std.specs.Prelude.{List, ℕ, length, replicate}
+use Rattle.std.specs.Prelude.{List, ℕ, length, replicate, Result, Ok, Err}
 use Rattle.molecule.specs.Lists.{Bytes}
 use Rattle.molecule.specs.Check.{accepted, refused, check}
 use Rattle.molecule.specs.Verdict.{number_of, place_of}
-use Rattle.tabulate.specs.declared.count.Counted.{Counted}
-use Rattle.tabulate.specs.declared.count.Counted.TheVariants.{Count, Record, Parts, Pairs}
-use Rattle.tabulate.specs.Built.{TableAnswer, counted, turned_back, build_answer}
+use Rattle.tabulate.specs.declared.count.CountRefusal.{CountRefusal}
+use Rattle.tabulate.specs.declared.count.CountRefusal.TheVariants.{Record, Full}
+use Rattle.tabulate.specs.Built.{TableAnswer, counted, turned_back, build_answer, full_number, full_place}
 
 -- the number, 0 for a count; and the count or the place
 abbrev pub number : TableAnswer → ℕ
@@ -30,9 +30,16 @@ table_after r words = elim (check r) [
   | refused k p ↦ words
 ]
 
--- what count's enum says in document 01's numbers and values
-abbrev pub answer_of : Counted → TableAnswer
-answer_of (Count n) = counted n
-answer_of (Record f) = turned_back (number_of f) (place_of f)
-answer_of (Parts k) = turned_back 9 k
-answer_of (Pairs n) = turned_back 10 n
+-- a refusal's row of document 01, and its place
+abbrev pub refusal_number : CountRefusal → ℕ
+refusal_number (Record f) = number_of f
+refusal_number (Full f) = full_number f
+
+abbrev pub refusal_place : CountRefusal → ℕ
+refusal_place (Record f) = place_of f
+refusal_place (Full f) = full_place f
+
+-- what count's result says in document 01's numbers and values
+abbrev pub answer_of : Result ℕ CountRefusal → TableAnswer
+answer_of (Ok n) = counted n
+answer_of (Err f) = turned_back (refusal_number f) (refusal_place f)

@@ -8,14 +8,35 @@ ghost use Rattle.tabulate.specs.Inner.Walked.{Walked};
 use crate::nodes::Done;
 use crate::{rounds, table};
 use canonize::Slate;
-use molecule::Molecule;
+use molecule::{Molecule, Refusal};
 
-// What build answers: the matches there are; the size at which parts has no room; or the matches there are where pairs has no room for them.
-#[derive(Clone, Copy)]
-pub enum Built {
-    Count(u64),
+// Why a table is not built, rows 9 and 10 of document 01: the size at which parts has no room; or the matches there are, for which pairs has no room.
+#[derive(Clone, Copy, Debug, PartialEq, Eq)]
+pub enum Full {
     Parts(u64),
     Pairs(u64),
+}
+
+impl Refusal for Full {
+    ghost use Rattle.tabulate.specs.Built.{full_number, full_place};
+
+    ghost number_of = { full_number };
+
+    ghost place_of = { full_place };
+
+    fn number(self) -> u32 {
+        match self {
+            Full::Parts(_) => 9,
+            Full::Pairs(_) => 10,
+        }
+    }
+
+    fn place(self) -> u64 {
+        match self {
+            Full::Parts(size) => size,
+            Full::Pairs(matches) => matches,
+        }
+    }
 }
 
 // How many entries of so many words each there is room for, at most 4,294,967,295.
@@ -51,24 +72,21 @@ fn walk(molecule: &Molecule, parts: &mut [u64], p: usize) -> Result<Done, u64>
     })
 }
 
-// The molecule's matches go to the front of pairs.
-pub fn build(molecule: &Molecule, parts: &mut [u64], pairs: &mut [u64]) -> Built
+// The molecule's matches go to the front of pairs: how many there are.
+pub fn build(molecule: &Molecule, parts: &mut [u64], pairs: &mut [u64]) -> Result<u64, Full>
     ensures answer { answer_of result ≡ build_answer molecule.now.bytes.now (length parts.old) (length pairs.old) }
     ensures pairs { pairs.new ≡ pairs_after molecule.now.bytes.now (length parts.old) pairs.old }
     ensures parts { length parts.new ≡ length parts.old }
 {
     let p = room(parts.len(), 16);
     if p < molecule.bonds() {
-        return Built::Parts(1);
+        return Err(Full::Parts(1));
     }
-    let done = match walk(molecule, parts, p) {
-        Ok(done) => done,
-        Err(size) => return Built::Parts(size),
-    };
+    let done = walk(molecule, parts, p).map_err(Full::Parts)?;
     let total = done.matches;
     if (room(pairs.len(), 4) as u64) < total {
-        return Built::Pairs(total);
+        return Err(Full::Pairs(total));
     }
     table::write(parts, p, done.nodes, pairs);
-    Built::Count(total)
+    Ok(total)
 }

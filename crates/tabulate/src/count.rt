@@ -3,43 +3,67 @@ ghost use Rattle.std.specs.Prelude.{◌≡◌, length};
 ghost use Rattle.tabulate.specs.Counted.{count_answer, table_after, answer_of};
 
 use crate::build;
-use crate::build::Built;
-use molecule::{Fault, Molecule};
+use crate::build::Full;
+use molecule::{Fault, Molecule, Refusal};
 
-// What count answers: the matches there are; why the record is turned back; the size at which parts has no room; or the matches there are where
-// pairs has no room for them.
-#[derive(Clone, Copy)]
-pub enum Counted {
-    Count(u64),
+// Why matches are not counted: rows 1 to 6 of document 01, the record; 9 and 10, a table.
+#[derive(Clone, Copy, Debug, PartialEq, Eq)]
+pub enum CountRefusal {
     Record(Fault),
-    Parts(u64),
-    Pairs(u64),
+    Full(Full),
 }
 
-// count of a molecule.
-fn count_accepted(molecule: &Molecule, parts: &mut [u64], pairs: &mut [u64]) -> Counted
-    ensures answer { answer_of result ≡ count_answer molecule.now.bytes.now (length parts.old) (length pairs.old) }
-    ensures parts { parts.new ≡ table_after molecule.now.bytes.now parts.old }
-    ensures pairs { pairs.new ≡ table_after molecule.now.bytes.now pairs.old }
-{
-    let built = build::build(molecule, parts, pairs);
-    clear::zero(parts);
-    clear::zero(pairs);
-    match built {
-        Built::Count(n) => Counted::Count(n),
-        Built::Parts(k) => Counted::Parts(k),
-        Built::Pairs(n) => Counted::Pairs(n),
+impl From<Fault> for CountRefusal {
+    ghost use Rattle.tabulate.specs.declared.count.CountRefusal.TheVariants.{Record};
+
+    ghost from_gives = { λ fault refusal. refusal ≡ Record fault };
+
+    fn from(fault: Fault) -> CountRefusal {
+        CountRefusal::Record(fault)
     }
 }
 
-// The number of matches of a record: rows 1 to 6, 9 and 10.
-pub fn count(bytes: &[u8], parts: &mut [u64], pairs: &mut [u64]) -> Counted
+impl From<Full> for CountRefusal {
+    ghost use Rattle.tabulate.specs.declared.count.CountRefusal.TheVariants.{Full as full_variant};
+
+    ghost from_gives = { λ full refusal. refusal ≡ full_variant full };
+
+    fn from(full: Full) -> CountRefusal {
+        CountRefusal::Full(full)
+    }
+}
+
+impl Refusal for CountRefusal {
+    ghost use Rattle.tabulate.specs.Counted.{refusal_number, refusal_place};
+
+    ghost number_of = { refusal_number };
+
+    ghost place_of = { refusal_place };
+
+    fn number(self) -> u32 {
+        match self {
+            CountRefusal::Record(fault) => fault.number(),
+            CountRefusal::Full(full) => full.number(),
+        }
+    }
+
+    fn place(self) -> u64 {
+        match self {
+            CountRefusal::Record(fault) => fault.place(),
+            CountRefusal::Full(full) => full.place(),
+        }
+    }
+}
+
+// The number of matches of a record.
+pub fn count(bytes: &[u8], parts: &mut [u64], pairs: &mut [u64]) -> Result<u64, CountRefusal>
     ensures answer { answer_of result ≡ count_answer bytes.now (length parts.old) (length pairs.old) }
     ensures parts { parts.new ≡ table_after bytes.now parts.old }
     ensures pairs { pairs.new ≡ table_after bytes.now pairs.old }
 {
-    match Molecule::read(bytes) {
-        Ok(molecule) => count_accepted(&molecule, parts, pairs),
-        Err(fault) => Counted::Record(fault),
-    }
+    let molecule = Molecule::read(bytes)?;
+    let built = build::build(&molecule, parts, pairs);
+    clear::zero(parts);
+    clear::zero(pairs);
+    Ok(built?)
 }

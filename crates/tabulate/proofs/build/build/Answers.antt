@@ -1,44 +1,57 @@
 -- Rows 9 and 10, and else the matches.
-use Rattle.std.proofs.Common.{length, arith, rules}
+use Rattle.std.proofs.Common.{◌≡◌, ℕ, Result, Ok, Err, List, MatchResult, length, arith, rules}
+use Rattle.std.specs.Result.{IsErrAnd}
+use Rattle.std.proofs.lemmas.Result.{err_from_is_err_and}
+use Rattle.molecule.specs.Lists.{Bytes}
+use Rattle.tabulate.specs.declared.build.Full.{Full}
+use Rattle.tabulate.specs.declared.build.Full.TheVariants.{Parts}
+use Rattle.tabulate.specs.declared.nodes.Done.{Done}
+use Rattle.tabulate.specs.Inner.Walked.{Walked, WholeTable, NoRoom}
 use Rattle.tabulate.proofs.Answering.{over_one, answer_parts, answer_pairs, write_starts, write_room, answer_count}
 use Rattle.tabulate.proofs.build.build.Goals as goal
+
+-- how the loop over sizes ends, where the size that has no room is a refusal
+walked : (r : Bytes) (parts : List ℕ) (p : ℕ) (g : Result Done ℕ) (s : Result Done Full) → Walked r parts p g → MatchResult g (λ d. s ≡ Ok d) (λ k. IsErrAnd s (λ f. f ≡ Parts k))
+    → MatchResult s (WholeTable r parts p) (λ f. (k : ℕ) × (f ≡ Parts k) × NoRoom r p k)
+walked r parts p (Ok d) s w h = rw h w
+walked r parts p (Err k) (Ok d) w h = absurd h
+walked r parts p (Err k) (Err f) w h = (k, h, w)
 
 pub returns-then-p-bonds : goal.returns-then-p-bonds
 returns-then-p-bonds c =
     let a = c.args in
-    let m = a.molecule.now in
-    let w = answer_parts m.bytes.now (length a.parts.now) a.pairs.now _ c.room-p.ensures 1 (over_one m.bytes.now c.room-p.result (omega arith)) in
+    let w = answer_parts a.molecule.now.bytes.now (length a.parts.now) a.pairs.now _ c.room-p.ensures 1 (over_one a.molecule.now.bytes.now c.room-p.result (omega arith)) in
     record { answer = w.0; pairs = w.1; parts = search rules }
 
-pub returns-in-Err : goal.returns-in-Err
-returns-in-Err c =
+pub returns-in_err-done : goal.returns-in_err-done
+returns-in_err-done c =
     let a = c.args in
-    let m = a.molecule.now in
-    let w = answer_parts m.bytes.now (length a.parts.now) a.pairs.now _ c.room-p.ensures _ c.in-Err.ensures in
-    record { answer = w.0; pairs = w.1; parts = search rules }
+    let p = err_from_is_err_and c.from_residual.result c.from_residual.ensures.1 in
+    let n = rw c.in_err-done.was at (walked _ _ _ _ _ c.walk.ensures c.map_err.ensures.cases) in
+    let w = answer_parts a.molecule.now.bytes.now (length a.parts.now) a.pairs.now _ c.room-p.ensures _ n.2 in
+    rw (p.1, p.2, n.1) (record { answer = w.0; pairs = w.1; parts = search rules })
 
 pub returns-then-room-total : goal.returns-then-room-total
 returns-then-room-total c =
     let a = c.args in
-    let m = a.molecule.now in
-    let w = answer_pairs m.bytes.now (length a.parts.now) a.pairs.now _ c.room-p.ensures c.in-Ok.ensures (omega arith) in
+    let t = rw c.in_ok-done.was at (walked _ _ _ _ _ c.walk.ensures c.map_err.ensures.cases) in
+    let w = answer_pairs a.molecule.now.bytes.now (length a.parts.now) a.pairs.now _ c.room-p.ensures t (omega arith) in
     record { answer = w.0; pairs = w.1; parts = search rules }
 
 pub write-requires : goal.write-requires
 write-requires c =
     let a = c.args in
-    let m = a.molecule.now in
-    let w = c.in-Ok.ensures in (
-      w.few,
+    let t = rw c.in_ok-done.was at (walked _ _ _ _ _ c.walk.ensures c.map_err.ensures.cases) in (
+      t.few,
       omega arith,
-      write_starts m.bytes.now (length a.parts.now) a.pairs.now _ c.room-p.ensures w m.accepted (omega arith),
-      write_room m.bytes.now (length a.parts.now) a.pairs.now _ c.room-p.ensures w m.accepted (omega arith),
+      write_starts a.molecule.now.bytes.now (length a.parts.now) a.pairs.now _ c.room-p.ensures t a.molecule.now.accepted (omega arith),
+      write_room a.molecule.now.bytes.now (length a.parts.now) a.pairs.now _ c.room-p.ensures t a.molecule.now.accepted (omega arith),
     )
 
 pub returns : goal.returns
 returns c =
     let a = c.args in
-    let m = a.molecule.now in
     let v = c.write.ensures in
-    let w = answer_count m.bytes.now (length a.parts.now) a.pairs.now _ c.room-p.ensures c.in-Ok.ensures m.accepted (omega arith) _ _ v.count v.holds in
+    let t = rw c.in_ok-done.was at (walked _ _ _ _ _ c.walk.ensures c.map_err.ensures.cases) in
+    let w = answer_count a.molecule.now.bytes.now (length a.parts.now) a.pairs.now _ c.room-p.ensures t a.molecule.now.accepted (omega arith) _ _ v.count v.holds in
     record { answer = w.0; pairs = w.1; parts = search rules }
