@@ -6,10 +6,10 @@ use Rattle.std.proofs.Math.Decide.{ℕ_discrete, dec_lt}
 use Rattle.clear.specs.Inner.Part.{zero_part}
 use Rattle.clear.proofs.Part.{part_length, part_below, part_zero}
 use Rattle.molecule.specs.Lists.{Bytes, fold}
-use Rattle.molecule.specs.Connected.{Own, Connected}
 use Rattle.molecule.proofs.Lists.{at_mem}
 use Rattle.canonize.specs.Strings.{lex_le, same}
 use Rattle.canonize.specs.Label.{label}
+use Rattle.canonize.specs.Inner.Slate.{Fragment}
 use Rattle.canonize.proofs.Laws.{same_iff, le_refl}
 use Rattle.matches.specs.Table.{Group, place, groups}
 use Rattle.enumerate.specs.Inner.Bucketed.{Bucketed}
@@ -33,7 +33,7 @@ pub bucketed_around : {old now : List ℕ} {p : ℕ} {l : List ℕ} → Around o
 bucketed_around o f = bucketed_same o.long o.low f
 
 pub groupable_around : {r : Bytes} {old now : List ℕ} {p : ℕ} {l : List ℕ} → Around old now p → Groupable r old p l → Groupable r now p l
-groupable_around o w = record { found = bucketed_around o w.found; wide = omega (arith, o.long, w.wide); own = w.own; connected = w.connected }
+groupable_around o w = record { found = bucketed_around o w.found; wide = omega (arith, o.long, w.wide); fragments = w.fragments }
 
 -- ---- chains
 
@@ -148,8 +148,7 @@ module _ (r : Bytes) {parts : List ℕ} {p g m j : ℕ} (w : Hints parts p g m) 
   hinted v wide = record {
     wide = wide;
     within = λ f e. let u = w.first j f here e in rw u.2 (v.within u.0 u.1);
-    own = λ f e. let u = w.first j f here e in rw u.2 (v.own u.0 u.1);
-    connected = λ f e. let u = w.first j f here e in rw u.2 (v.connected u.0 u.1);
+    fragment = λ f e. let u = w.first j f here e in rw u.2 (v.fragments u.0 u.1);
   }
 
   pub leads_group : (f : ℕ) (x : Bytes) → HintLeads r parts p j f x → (k : ℕ) × (k < g) × (f ≡ get_or parts (4 * p + k) 0) × (same x (key_at r parts p k) ≡ true)
@@ -260,8 +259,7 @@ module _ {r : Bytes} {parts : List ℕ} {p : ℕ} {l : List ℕ} {i : ℕ} {gs :
     wide = placing_wide;
     few = omega (arith, placing_few, placing_room);
     within = λ k h. omega (arith, placing_first k h, placing_room);
-    own = λ k h. rw (set_at k h) (w.ready.own (get_or l (f k) 0) (member k h));
-    connected = λ k h. rw (set_at k h) (w.ready.connected (get_or l (f k) 0) (member k h));
+    fragments = λ k h. rw (set_at k h) (w.ready.fragments (get_or l (f k) 0) (member k h));
     ascend = λ j k a h. rw (key_at_lem k h, key_at_lem j (omega arith)) (w.grouped.keyed.ascend j k a (omega (arith, w.count)));
   }
 
@@ -454,11 +452,8 @@ module _ {r : Bytes} {l : List ℕ} {p : ℕ} {now : List ℕ} where
   }
 
   module _ {i g : ℕ} (w : Grouping r l now p i g) where
-    pub grouping_own : i < length l → Own r (get_or now (p + i) 0)
-    grouping_own h = rw (w.ready.found.listed.sets i h) (w.ready.own (get_or l i 0) (at_mem 0 l i h))
-
-    pub grouping_connected : i < length l → Connected r (get_or now (p + i) 0)
-    grouping_connected h = rw (w.ready.found.listed.sets i h) (w.ready.connected (get_or l i 0) (at_mem 0 l i h))
+    pub grouping_fragment : i < length l → Fragment r (get_or now (p + i) 0)
+    grouping_fragment h = rw (w.ready.found.listed.sets i h) (w.ready.fragments (get_or l i 0) (at_mem 0 l i h))
 
     pub grouping_placing : i < length l → (x : Bytes) → x ≡ label r (get_or now (p + i) 0) → Placing r now p l i w.list g x
     grouping_placing h x e = record {

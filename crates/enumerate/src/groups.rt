@@ -2,25 +2,18 @@
 // candidate 1 more than the index of the next member of its group, 0 for none, 6 for each first member the index of its group's last member,
 // 9 to 11 hints: at the place of a label 1 more than the index of the first member of a group that may have that label, 0 for none.
 ghost use Rattle.std.specs.Prelude.{◌≡◌, IfSome, List, ℕ, ◌+◌, ◌*◌, ◌≤◌, ◌<◌, length, get_or};
-ghost use Rattle.molecule.specs.Touch.{bonds_at_words};
-ghost use Rattle.molecule.specs.Check.{check, accepted};
-ghost use Rattle.canonize.specs.Inner.Slate.{Slate, kept, Keeps};
 ghost use Rattle.matches.specs.Table.{Group, groups};
 ghost use Rattle.enumerate.specs.Inner.Grouped.{Grouped, Groupable, Around, Outside, key_at, Firsts, Position, GroupOpened, joined};
 ghost use Rattle.enumerate.specs.Inner.Grouped.{Hints, Hinted, HintLeads, Moved, Placing, GroupPlaced};
 
+use canonize::Slate;
+use molecule::Molecule;
+
 // The first of the g groups whose label does not come before the one that is kept, g where there is none.
-fn position(
-    bytes: &[u8],
-    at: &[u64; 65],
-    parts: &[u64],
-    p: usize,
-    g: usize,
-    slate: &mut [u8],
-) -> usize
-    requires { (check bytes.now ≡ accepted) × (at.now ≡ bonds_at_words bytes.now) × Firsts bytes.now parts.now p g × Slate slate.old }
-    ensures position { Position (key_at bytes.now parts.now p) g (kept slate.old) result }
-    ensures keeps { Keeps slate.new (kept slate.old) }
+fn position(molecule: &Molecule, parts: &[u64], p: usize, g: usize, slate: &mut Slate) -> usize
+    requires { Firsts molecule.now.bytes.now parts.now p g }
+    ensures position { Position (key_at molecule.now.bytes.now parts.now p) g slate.old result }
+    ensures keeps { slate.new ≡ slate.old }
 {
     let mut low = 0;
     let mut high = g;
@@ -28,7 +21,7 @@ fn position(
     while low < high {
         let middle = low + (high - low) / 2;
         let i = parts[4 * p + middle] as usize;
-        if canonize::slate::is_before(bytes, at, parts[p + i], slate) {
+        if slate.is_before(molecule, parts[p + i]) {
             low = middle + 1;
         } else {
             high = middle;
@@ -62,25 +55,22 @@ fn join(parts: &mut [u64], p: usize, f: usize, i: usize)
 
 // Candidate i, whose label is kept, goes to its group, which is sought by order. The answer is how many groups there are then.
 fn place_by_order(
-    bytes: &[u8],
-    at: &[u64; 65],
+    molecule: &Molecule,
     parts: &mut [u64],
     p: usize,
     g: usize,
     i: usize,
-    slate: &mut [u8],
+    slate: &mut Slate,
 ) -> usize
-    requires { (check bytes.now ≡ accepted) × (at.now ≡ bonds_at_words bytes.now) × Slate slate.old
-        × ((l : List ℕ) × (gs : List Group) × Placing bytes.now parts.old p l i gs g (kept slate.old)) }
-    ensures placed { Outside parts.old parts.new p × Moved parts.old parts.new p g result i
-        × ((l : List ℕ) (gs : List Group) → Placing bytes.now parts.old p l i gs g (kept slate.old)
-        → GroupPlaced bytes.now parts.new p l i gs result (kept slate.old)) }
-    ensures serves { Slate slate.new }
+    requires { (l : List ℕ) × (gs : List Group) × Placing molecule.now.bytes.now parts.old p l i gs g slate.old }
+    ensures { Outside parts.old parts.new p × Moved parts.old parts.new p g result i
+        × ((l : List ℕ) (gs : List Group) → Placing molecule.now.bytes.now parts.old p l i gs g slate.old
+        → GroupPlaced molecule.now.bytes.now parts.new p l i gs result slate.old) }
 {
-    let k = position(bytes, at, parts, p, g, slate);
+    let k = position(molecule, parts, p, g, slate);
     if k < g {
         let f = parts[4 * p + k] as usize;
-        if canonize::slate::is_kept(bytes, at, parts[p + f], slate) {
+        if slate.is_kept(molecule, parts[p + f]) {
             join(parts, p, f, i);
             return g;
         }
@@ -91,46 +81,42 @@ fn place_by_order(
 
 // The first member of the group that hint j leads to, where its label is the one that is kept.
 fn leads_to(
-    bytes: &[u8],
-    at: &[u64; 65],
+    molecule: &Molecule,
     parts: &[u64],
     p: usize,
     j: usize,
-    slate: &mut [u8],
+    slate: &mut Slate,
 ) -> Option<usize>
-    requires { (check bytes.now ≡ accepted) × (at.now ≡ bonds_at_words bytes.now) × Hinted bytes.now parts.now p j × Slate slate.old }
-    ensures leads { IfSome result (λ f. HintLeads bytes.now parts.now p j f (kept slate.old)) }
-    ensures keeps { Keeps slate.new (kept slate.old) }
+    requires { Hinted molecule.now.bytes.now parts.now p j }
+    ensures leads { IfSome result (λ f. HintLeads molecule.now.bytes.now parts.now p j f slate.old) }
+    ensures keeps { slate.new ≡ slate.old }
 {
     let f = (parts[9 * p + j] as usize).checked_sub(1)?;
-    canonize::slate::is_kept(bytes, at, parts[p + f], slate).then_some(f)
+    slate.is_kept(molecule, parts[p + f]).then_some(f)
 }
 
 // Candidate i, whose label is kept, goes to its group, by the hint where that leads there. The answer is how many groups there are then.
 fn place(
-    bytes: &[u8],
-    at: &[u64; 65],
+    molecule: &Molecule,
     parts: &mut [u64],
     p: usize,
     m: usize,
     g: usize,
     i: usize,
-    slate: &mut [u8],
+    slate: &mut Slate,
 ) -> usize
-    requires { (check bytes.now ≡ accepted) × (at.now ≡ bonds_at_words bytes.now) × Slate slate.old
-        × ((l : List ℕ) × (gs : List Group) × Placing bytes.now parts.old p l i gs g (kept slate.old))
+    requires { ((l : List ℕ) × (gs : List Group) × Placing molecule.now.bytes.now parts.old p l i gs g slate.old)
         × (0 < m) × (m ≤ 3 * p) × Hints parts.old p g m }
-    ensures placed { Around parts.old parts.new p × Hints parts.new p result m
-        × ((l : List ℕ) (gs : List Group) → Placing bytes.now parts.old p l i gs g (kept slate.old)
-        → GroupPlaced bytes.now parts.new p l i gs result (kept slate.old)) }
-    ensures serves { Slate slate.new }
+    ensures { Around parts.old parts.new p × Hints parts.new p result m
+        × ((l : List ℕ) (gs : List Group) → Placing molecule.now.bytes.now parts.old p l i gs g slate.old
+        → GroupPlaced molecule.now.bytes.now parts.new p l i gs result slate.old) }
 {
-    let j = canonize::slate::spread(slate, m);
-    if let Some(f) = leads_to(bytes, at, parts, p, j, slate) {
+    let j = slate.spread(m);
+    if let Some(f) = leads_to(molecule, parts, p, j, slate) {
         join(parts, p, f, i);
         return g;
     }
-    let n = place_by_order(bytes, at, parts, p, g, i, slate);
+    let n = place_by_order(molecule, parts, p, g, i, slate);
     if n == g {
         return n;
     }
@@ -140,26 +126,23 @@ fn place(
 
 // All candidates, so many, are grouped. The answer is how many groups there are.
 pub fn group(
-    bytes: &[u8],
-    at: &[u64; 65],
+    molecule: &Molecule,
     parts: &mut [u64],
     p: usize,
     count: usize,
-    slate: &mut [u8],
+    slate: &mut Slate,
 ) -> usize
-    requires { (check bytes.now ≡ accepted) × (at.now ≡ bonds_at_words bytes.now) × Slate slate.old
-        × ((l : List ℕ) × Groupable bytes.now parts.old p l × (length l ≡ count)) }
-    ensures grouped { Around parts.old parts.new p
-        × ((l : List ℕ) → Groupable bytes.now parts.old p l → length l ≡ count
-        → (result ≡ length (groups bytes.now l)) × Grouped bytes.now parts.new p l count (groups bytes.now l)) }
-    ensures serves { Slate slate.new }
+    requires { (l : List ℕ) × Groupable molecule.now.bytes.now parts.old p l × (length l ≡ count) }
+    ensures { Around parts.old parts.new p
+        × ((l : List ℕ) → Groupable molecule.now.bytes.now parts.old p l → length l ≡ count
+        → (result ≡ length (groups molecule.now.bytes.now l)) × Grouped molecule.now.bytes.now parts.new p l count (groups molecule.now.bytes.now l)) }
 {
     let m = 3 * count;
     clear::zero_part(parts, 9 * p, 9 * p + m);
     let mut g = 0;
     for i in 0..count {
-        canonize::slate::keep(bytes, at, parts[p + i], slate);
-        g = place(bytes, at, parts, p, m, g, i, slate);
+        slate.keep(molecule, parts[p + i]);
+        g = place(molecule, parts, p, m, g, i, slate);
     }
     g
 }

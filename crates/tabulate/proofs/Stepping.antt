@@ -253,8 +253,7 @@ module _ {r : Bytes} {parts : List ℕ} {p k from to : ℕ} (w : Sizing r parts 
         sizing_ready = record {
           found = cleared_bucketed one two p count these c counted.0;
           wide = omega (arith, c.long, sizing_wide);
-          own = λ s m. (candidate r k some s m).own;
-          connected = λ s m. (candidate r k some s m).whole;
+          fragments = λ s m. let f = candidate r k some s m in record { own = f.own; connected = f.whole };
         }
 
         module _ {three : List ℕ} {g : ℕ} (o : Around two three p) (d : (g ≡ length (groups r these)) × Grouped r three p these count (groups r these)) where
@@ -368,7 +367,7 @@ module _ (r : Bytes) (old now : List ℕ) (p : ℕ) (w : Laid old now p (bonds r
       need (suc zero) h = fits
       need (suc (suc i)) h = absurd (omega arith)
 
-pub laid_held : {old now : List ℕ} {p n i : ℕ} → Laid old now p i → n ≤ i → 0 < p → p ≤ 4294967295 → 12 * p ≤ length old → n ≤ p → (r : Bytes) → bonds r ≡ n
+pub laid_held : {r : Bytes} {old now : List ℕ} {p i : ℕ} → Laid old now p i → bonds r ≤ i → 0 < p → bonds r ≤ p → p ≤ 4294967295 → 12 * p ≤ length old
     → Stage r now p 0
-laid_held {old} {now} {p} w h some clamped wide fits r e =
-    held_start r old now p (record { long = w.long; nodes = λ j l. w.nodes j (omega arith); starts = λ j l. w.starts j (omega arith) }) some clamped wide (omega arith)
+laid_held {r} {old} {now} {p} w h some fits clamped wide =
+    held_start r old now p (record { long = w.long; nodes = λ j l. w.nodes j (omega arith); starts = λ j l. w.starts j (omega arith) }) some clamped wide fits

@@ -1,16 +1,14 @@
 // The match table of a record, size by size, and its matches written down. Regions of parts as in specs/Inner/Noded.antt.
 ghost use Rattle.std.specs.Prelude.{◌≡◌, ◌*◌, ◌/◌, ◌≤◌, ◌<◌, min, length};
 ghost use Rattle.molecule.specs.Record.{bonds};
-ghost use Rattle.molecule.specs.Touch.{bonds_at_words, touching_words};
-ghost use Rattle.molecule.specs.Check.{check, accepted};
-ghost use Rattle.canonize.specs.Inner.Slate.{Slate};
 ghost use Rattle.tabulate.specs.Built.{build_answer, answer_of};
 ghost use Rattle.tabulate.specs.Inner.PairsLeft.{pairs_after};
 ghost use Rattle.tabulate.specs.Inner.Walked.{Walked};
 
 use crate::nodes::Done;
 use crate::{rounds, table};
-use molecule::{fields, graph};
+use canonize::Slate;
+use molecule::Molecule;
 
 // What build answers: the matches there are; the size at which parts has no room; or the matches there are where pairs has no room for them.
 #[derive(Clone, Copy)]
@@ -28,27 +26,19 @@ fn room(words: usize, each: usize) -> usize
     (words / each).min(4_294_967_295)
 }
 
-// Size by size while there are parents, from the n single bonds on. The answer is how many nodes and matches there are, or the size that has no room.
-fn walk(
-    bytes: &[u8],
-    at: &[u64; 65],
-    touch: &[u64; 64],
-    parts: &mut [u64],
-    p: usize,
-    n: usize,
-    slate: &mut [u8],
-) -> Result<Done, u64>
-    requires { (check bytes.now ≡ accepted) × (at.now ≡ bonds_at_words bytes.now) × (touch.now ≡ touching_words bytes.now)
-        × (n ≡ bonds bytes.now) × (n ≤ p) × (p ≤ 4294967295) × (12 * p ≤ length parts.old) × Slate slate.old }
-    ensures { Walked bytes.now parts.new p result }
+// Size by size while there are parents, from the single bonds on. The answer is how many nodes and matches there are, or the size that has no room.
+fn walk(molecule: &Molecule, parts: &mut [u64], p: usize) -> Result<Done, u64>
+    requires { (bonds molecule.now.bytes.now ≤ p) × (p ≤ 4294967295) × (12 * p ≤ length parts.old) }
+    ensures { Walked molecule.now.bytes.now parts.new p result }
 {
-    rounds::start(parts, p, n);
+    rounds::start(molecule, parts, p);
+    let mut slate = Slate::new();
     let mut from = 0;
-    let mut to = n;
+    let mut to = molecule.bonds();
     let mut size: u64 = 2;
     let mut total: u64 = 0;
     while from < to {
-        let done = rounds::size(bytes, at, touch, parts, p, from, to, slate).ok_or(size)?;
+        let done = rounds::size(molecule, parts, p, from, to, &mut slate).ok_or(size)?;
         total += done.matches;
         from = to;
         to = done.nodes;
@@ -60,30 +50,17 @@ fn walk(
     })
 }
 
-// The same, with a slate for labels.
-fn grow(bytes: &[u8], parts: &mut [u64], p: usize, n: usize) -> Result<Done, u64>
-    requires { (check bytes.now ≡ accepted) × (n ≡ bonds bytes.now) × (n ≤ p) × (p ≤ 4294967295) × (12 * p ≤ length parts.old) }
-    ensures { Walked bytes.now parts.new p result }
-{
-    let at = graph::bonds_at(bytes);
-    let touch = graph::touching_from(bytes, &at);
-    let mut slate = canonize::slate::blank();
-    walk(bytes, &at, &touch, parts, p, n, &mut slate)
-}
-
-// The matches of an accepted record go to the front of pairs.
-pub fn build(bytes: &[u8], parts: &mut [u64], pairs: &mut [u64]) -> Built
-    requires { check bytes.now ≡ accepted }
-    ensures answer { answer_of result ≡ build_answer bytes.now (length parts.old) (length pairs.old) }
-    ensures pairs { pairs.new ≡ pairs_after bytes.now (length parts.old) pairs.old }
+// The molecule's matches go to the front of pairs.
+pub fn build(molecule: &Molecule, parts: &mut [u64], pairs: &mut [u64]) -> Built
+    ensures answer { answer_of result ≡ build_answer molecule.now.bytes.now (length parts.old) (length pairs.old) }
+    ensures pairs { pairs.new ≡ pairs_after molecule.now.bytes.now (length parts.old) pairs.old }
     ensures parts { length parts.new ≡ length parts.old }
 {
     let p = room(parts.len(), 16);
-    let n = fields::bonds(bytes);
-    if p < n {
+    if p < molecule.bonds() {
         return Built::Parts(1);
     }
-    let done = match grow(bytes, parts, p, n) {
+    let done = match walk(molecule, parts, p) {
         Ok(done) => done,
         Err(size) => return Built::Parts(size),
     };

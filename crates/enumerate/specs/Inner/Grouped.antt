@@ -4,9 +4,9 @@
 use Rattle.std.specs.Prelude.{◌≡◌, ◌≢◌, true, false, ℕ, suc, ◌+◌, ◌*◌, ◌≤◌, ◌<◌, length, get_or, set}
 use mathlib.Core.List.{List, [], ◌∷◌, Memᴰ}
 use Rattle.molecule.specs.Lists.{Bytes}
-use Rattle.molecule.specs.Connected.{Own, Connected}
 use Rattle.canonize.specs.Strings.{lex_le, same}
 use Rattle.canonize.specs.Label.{label}
+use Rattle.canonize.specs.Inner.Slate.{Fragment}
 use Rattle.matches.specs.Table.{Group, place}
 use Rattle.enumerate.specs.Inner.Bucketed.{Bucketed}
 
@@ -28,14 +28,14 @@ pub record Keyed (r : Bytes) (gs : List Group) : Type 0 where
 pub record Grouped (r : Bytes) (parts : List ℕ) (p : ℕ) (l : List ℕ) (n : ℕ) (gs : List Group) : Type 0 where
   pub few : length gs ≤ n
   pub keyed : Keyed r gs
-  pub chains : (k : ℕ) → k < length gs → Threaded parts p l n (get_or parts (4 * p + k) 0) (group_at gs k).sets (get_or parts (6 * p + get_or parts (4 * p + k) 0) 0)
+  pub chains : (k : ℕ) → k < length gs
+      → Threaded parts p l n (get_or parts (4 * p + k) 0) (group_at gs k).sets (get_or parts (6 * p + get_or parts (4 * p + k) 0) 0)
 
 -- the table holds the candidates l, fragments of the record, and has room for their groups
 pub record Groupable (r : Bytes) (parts : List ℕ) (p : ℕ) (l : List ℕ) : Type 0 where
   pub found : Bucketed parts p l
   pub wide : 12 * p ≤ length parts
-  pub own : (s : ℕ) → Memᴰ s l → Own r s
-  pub connected : (s : ℕ) → Memᴰ s l → Connected r s
+  pub fragments : (s : ℕ) → Memᴰ s l → Fragment r s
 
 -- nothing outside regions 4 to 6 and from 9 on is written
 pub record Around (old now : List ℕ) (p : ℕ) : Type 0 where
@@ -60,8 +60,7 @@ pub record Firsts (r : Bytes) (parts : List ℕ) (p g : ℕ) : Type 0 where
   pub wide : 7 * p ≤ length parts
   pub few : g ≤ p
   pub within : (k : ℕ) → k < g → get_or parts (4 * p + k) 0 < p
-  pub own : (k : ℕ) → k < g → Own r (get_or parts (p + get_or parts (4 * p + k) 0) 0)
-  pub connected : (k : ℕ) → k < g → Connected r (get_or parts (p + get_or parts (4 * p + k) 0) 0)
+  pub fragments : (k : ℕ) → k < g → Fragment r (get_or parts (p + get_or parts (4 * p + k) 0) 0)
   pub ascend : (j k : ℕ) → j < k → k < g → lex_le (key_at r parts p k) (key_at r parts p j) ≡ false
 
 -- k is the first of g keys that does not come before x, g where there is none
@@ -93,8 +92,7 @@ pub record Hints (parts : List ℕ) (p g m : ℕ) : Type 0 where
 pub record Hinted (r : Bytes) (parts : List ℕ) (p j : ℕ) : Type 0 where
   pub wide : 9 * p + j < length parts
   pub within : (f : ℕ) → get_or parts (9 * p + j) 0 ≡ suc f → f < p
-  pub own : (f : ℕ) → get_or parts (9 * p + j) 0 ≡ suc f → Own r (get_or parts (p + f) 0)
-  pub connected : (f : ℕ) → get_or parts (9 * p + j) 0 ≡ suc f → Connected r (get_or parts (p + f) 0)
+  pub fragment : (f : ℕ) → get_or parts (9 * p + j) 0 ≡ suc f → Fragment r (get_or parts (p + f) 0)
 
 -- hint j is f + 1, and the label of candidate f is x
 abbrev pub HintLeads : Bytes → List ℕ → ℕ → ℕ → ℕ → Bytes → Type 0

@@ -7,7 +7,7 @@ within : (c : In_ok-f) → c.args.p + c.in_ok-f.f < length c.args.parts.now
 within c =
     let q = c.in_ok-f.ensures {u = tt} in
     let e : get_or c.args.parts.now (9 * c.args.p + c.args.j) 0 ≡ suc c.in_ok-f.f = omega (arith, q) in
-    omega (arith, c.requires.2.within _ e, c.requires.2.wide)
+    omega (arith, c.requires.within _ e, c.requires.wide)
 
 pub overflow_add-p-2 : goal.overflow_add-p-2
 overflow_add-p-2 c = omega (arith, within (goal.at.overflow_add-p-2 c).In_ok-f)

@@ -9,20 +9,18 @@ pub loop-low-preserved-then-is_before : goal.loop-low-preserved-then-is_before
 unfolding key_at
 loop-low-preserved-then-is_before c =
     let w = c.loop-low.invariant in
-    let k = c.is_before.ensures.keeps in
-    let t = rw w.keeps.label at c.if-is_before.ensures.answer in
+    let t = rw w.keeps at c.if-is_before.ensures.answer in
     record {
-      keeps = record { serves = k.serves; label = k.label ∙ w.keeps.label };
-      searching = searching_up w.searching c.requires.2.ascend _ (omega (arith, c.loop-low-test.true)) (not-true _ (sym t));
+      keeps = c.is_before.ensures.keeps ∙ w.keeps;
+      searching = searching_up w.searching c.requires.ascend _ (omega (arith, c.loop-low-test.true)) (not-true _ (sym t));
     }
 
 pub loop-low-preserved : goal.loop-low-preserved
 unfolding key_at
 loop-low-preserved c =
     let w = c.loop-low.invariant in
-    let k = c.is_before.ensures.keeps in
-    let t = rw w.keeps.label at c.if-is_before.ensures.answer in
+    let t = rw w.keeps at c.if-is_before.ensures.answer in
     record {
-      keeps = record { serves = k.serves; label = k.label ∙ w.keeps.label };
+      keeps = c.is_before.ensures.keeps ∙ w.keeps;
       searching = searching_down w.searching _ (omega arith) (omega (arith, c.loop-low-test.true)) (not-false _ (sym t));
     }

@@ -8,36 +8,40 @@ use Rattle.tabulate.proofs.rounds.size.Goals.{After-zero_part}
 -- the flags are cleared
 clearing : (c : After-zero_part) → Cleared c.candidates.new.parts c.zero_part.new.words c.args.p c.in_ok-count.count
 clearing c =
-    let w = c.requires.3.1 in
+    let m = c.args.molecule.now in
+    let w = c.requires.1 in
     let v = c.in_ok-count.ensures in
-    cleared _ _ _ _ (sizing_few w c.requires.0 c.requires.2 v) (omega (arith, sizing_wide w c.requires.0 c.requires.2 v)) c.zero_part.ensures
+    cleared _ _ _ _ (sizing_few w m.accepted m.touching v) (omega (arith, sizing_wide w m.accepted m.touching v)) c.zero_part.ensures
 
 pub candidates-requires : goal.candidates-requires
-candidates-requires c = let w = c.requires.3.1 in (w.held.some, omega (arith, w.held.wide), omega (arith, w.parents), sizing_room w)
+candidates-requires c = let w = c.requires.1 in (w.held.some, omega (arith, w.held.wide), omega (arith, w.parents), sizing_room w)
 
-pub returns-in_err-count-clause-next : goal.returns-in_err-count-clause-next
-returns-in_err-count-clause-next c = λ k w. rw c.from_residual.ensures (sizing_over w c.requires.0 c.requires.2 c.in_err-count.ensures.1)
+pub returns-in_err-count : goal.returns-in_err-count
+returns-in_err-count c = let m = c.args.molecule.now in λ k w. rw c.from_residual.ensures (sizing_over w m.accepted m.touching c.in_err-count.ensures.1)
 
 pub group-groups-requires : goal.group-groups-requires
 group-groups-requires c =
-    let w = c.requires.3.1 in
+    let m = c.args.molecule.now in
+    let w = c.requires.1 in
     let v = c.in_ok-count.ensures in
     let z = clearing (goal.at.group-groups-requires c).After-zero_part in
-    (c.requires.0, c.requires.1, c.requires.4, (_, sizing_ready w c.requires.0 c.requires.2 v z, sizing_count w c.requires.0 c.requires.2 v))
+    (_, sizing_ready w m.accepted m.touching v z, sizing_count w m.accepted m.touching v)
 
 pub pair_groups-requires : goal.pair_groups-requires
 pair_groups-requires c =
-    let w = c.requires.3.1 in
+    let m = c.args.molecule.now in
+    let w = c.requires.1 in
     let v = c.in_ok-count.ensures in
     let z = clearing (goal.at.pair_groups-requires c).After-zero_part in
-    let g = c.group-groups.ensures.grouped in
-    (_, _, _, sizing_groups w c.requires.0 c.requires.2 v z g.0 (g.1 _ (sizing_ready w c.requires.0 c.requires.2 v z) (sizing_count w c.requires.0 c.requires.2 v)))
+    let g = c.group-groups.ensures in
+    (_, _, _, sizing_groups w m.accepted m.touching v z g.0 (g.1 _ (sizing_ready w m.accepted m.touching v z) (sizing_count w m.accepted m.touching v)))
 
-pub returns-clause-next : goal.returns-clause-next
-returns-clause-next c = λ k w.
+pub returns : goal.returns
+returns c = λ k w.
+    let m = c.args.molecule.now in
     let v = c.in_ok-count.ensures in
-    let z = clearing (goal.at.returns-clause-next c).After-zero_part in
-    let g = c.group-groups.ensures.grouped in
-    let d = g.1 _ (sizing_ready w c.requires.0 c.requires.2 v z) (sizing_count w c.requires.0 c.requires.2 v) in
+    let z = clearing (goal.at.returns c).After-zero_part in
+    let g = c.group-groups.ensures in
+    let d = g.1 _ (sizing_ready w m.accepted m.touching v z) (sizing_count w m.accepted m.touching v) in
     let n = c.pair_groups.ensures in
-    sizing_next w c.requires.0 c.requires.2 v z g.0 d n.0 _ (n.1 _ _ _ (sizing_groups w c.requires.0 c.requires.2 v z g.0 d))
+    sizing_next w m.accepted m.touching v z g.0 d n.0 _ (n.1 _ _ _ (sizing_groups w m.accepted m.touching v z g.0 d))
