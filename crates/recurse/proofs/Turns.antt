@@ -1,5 +1,5 @@
 -- The search's definition one turn at a time: where entering a state leads, and what is found after each child. Assumes nothing, but where a state is entered that the record is accepted.
-use Rattle.std.proofs.Common.{Option, Result, Ok, Err, ◌≡◌, refl, sym, ap, subst, ◌∙◌, ◌⊎◌, inl, inr, ◌≢◌, Bool, true, false, ◌||◌, List, [], ◌∷◌, ℕ, zero, suc, ◌+◌, ◌-◌, ◌≤◌, ◌<◌, min, arith, ltb, leb, eqb, length, get_or, take, lt-ltb, le-ltb, eq-eqb, ne_eqb}
+use Rattle.std.proofs.Common.{Option, Result, Ok, Err, ◌≡◌, refl, sym, ap, subst, ◌∙◌, ◌⊎◌, inl, inr, ◌≢◌, Bool, true, false, ◌||◌, List, [], ◌∷◌, ℕ, zero, suc, ◌+◌, ◌-◌, ◌/◌, ◌≤◌, ◌<◌, min, arith, ltb, leb, eqb, length, get_or, take, lt-ltb, le-ltb, eq-eqb, ne_eqb}
 use mathlib.Core.List.Memᴰ.{eq_of_singleton as mem_one}
 use mathlib.Core.List.{Memᴰ as Mem}
 use Rattle.bitset.specs.Bits.{size}
@@ -14,7 +14,6 @@ use Rattle.bounds.specs.Numbers.{sum_of, ceil_log2}
 use Rattle.bounds.specs.Bounds.{int_bound}
 use Rattle.matches.specs.Table.{Pair, pairs}
 use Rattle.matches.proofs.Laws.{table_laws}
-use Rattle.canonize.specs.Inner.Slate.{Slate}
 use Rattle.search.specs.Setting.{Setting, has_memo, memo_room}
 use Rattle.search.specs.State.{State, root, removable, child}
 use Rattle.search.specs.Memo.{Entry, Memo, goes, stopped, full, remember, entry_of, key_of}
@@ -23,6 +22,7 @@ use Rattle.search.specs.Inner.Claims.{Fine, held_of}
 use Rattle.search.proofs.Parts.{some}
 use Rattle.search.proofs.Least.{ask_off}
 use Rattle.search.proofs.Ends.{root_fine}
+use Rattle.molecule.specs.declared.tree.Molecule.{Molecule}
 use Rattle.molecule.proofs.Whole.{all_connected}
 use Rattle.state.specs.declared.State as code
 use Rattle.recurse.specs.declared.visit.Run as code_run
@@ -35,8 +35,8 @@ use Rattle.memoize.specs.declared.Full.{Full}
 use Rattle.state.specs.Inner.Views.{state_of}
 use Rattle.desk.specs.Inner.Cached.{Cached}
 use Rattle.memoize.specs.Inner.Stored.{Fragments, Stored, entry_with, MemoAnswers}
-use Rattle.branch.specs.Inner.Entered.{Entered}
-use Rattle.recurse.specs.Inner.Follows.{run_of, halted_as, Answered, Follows, Visited, Searches, Counted, Opened, Stopped as StoppedState, Ended, gate_of, Gated, OwnAnswer, better_of, Lowered}
+use Rattle.branch.specs.Inner.Entered.{Searched, Entered}
+use Rattle.recurse.specs.Inner.Follows.{run_of, halted_as, Answered, Follows, Visited, Searches, Tabled, Counted, Opened, Stopped as StoppedState, Ended, gate_of, Gated, OwnAnswer, better_of, Lowered}
 use Rattle.branch.specs.Inner.Branching.{tried_from, Turn, Next, Chooses, Below}
 use Rattle.branch.proofs.Branching.{pieces_own, next_take, next_end, below_falls}
 
@@ -143,9 +143,21 @@ module _ (r : Bytes) (setting : Setting) (room : ℕ) (s : code.State) (run : co
 
 -- the pieces of a state are fragments
 pub fragments_of : (r : Bytes) (s : code.State) → check r ≡ accepted → Entered r s → Fragments r (state_of s).pieces
-fragments_of r s ok E = record {
-  own = λ j h. pieces_own r ok (state_of s) E.fine (get_or (state_of s).pieces j 0) (at_mem 0 (state_of s).pieces j h);
-  connected = λ j h. E.connected (get_or (state_of s).pieces j 0) (at_mem 0 (state_of s).pieces j h);
+fragments_of r s ok E = λ j h. record {
+  own = pieces_own r ok (state_of s) E.fine (get_or (state_of s).pieces j 0) (at_mem 0 (state_of s).pieces j h);
+  connected = E.connected (get_or (state_of s).pieces j 0) (at_mem 0 (state_of s).pieces j h);
+}
+
+-- what branching is given of a molecule and the words of its matches
+pub searched_of : (m : Molecule) {words : List ℕ} → Tabled m.bytes.now words → Searched m.bytes.now m.at m.touch words (length words / 4)
+searched_of m w = record {
+  ok = m.accepted;
+  ends = m.bonds_at;
+  touches = m.touching;
+  recorded = w.recorded;
+  count = omega (arith, w.long);
+  room = omega arith;
+  few = omega (arith, w.long, w.few);
 }
 
 -- ---- the loop over the removals
@@ -255,17 +267,15 @@ found_next r setting room c found o words now W n st l = go (two (ltb o.index fo
 -- ---- what the loop keeps
 
 -- with ₀ as at its start: the next match to try is m, and the loop gives the whole, in a memo with as much room
-pub record Kept (r : Bytes) (setting : Setting) (s : code.State) (least first : ℕ) (found₀ : Found) (memo₀ desk₀ slate₀ : List ℕ)
-    (m : ℕ) (found : Found) (memo desk slate : List ℕ) : Type 0 where
+pub record Kept (r : Bytes) (setting : Setting) (s : code.State) (least first : ℕ) (found₀ : Found) (memo₀ desk₀ : List ℕ)
+    (m : ℕ) (found : Found) (memo desk : List ℕ) : Type 0 where
   pub turn : Turn (pairs r) (state_of s).pieces least m
   pub after : first ≤ m
   pub short : found.length ≤ 32
   pub low : found.run.best ≤ found₀.run.best
   pub memos : length memo ≡ length memo₀
   pub desks : length desk ≡ length desk₀
-  pub slates : length slate ≡ length slate₀
   pub cached : Cached r desk
-  pub serves : Slate slate
   pub stored : (n : List Entry) × Stored r memo found.run.entries n
   pub loops : (room : ℕ) → room ≡ memo_room (length memo₀) → (n : List Entry) → Stored r memo₀ found₀.run.entries n → (f : ℕ) → sum_of size (state_of s).pieces ≤ suc f
       → Looping r setting room f s least m found memo (whole_of r setting room f s least first found₀ n)
@@ -275,9 +285,9 @@ pub own_stored : {s : code.State} {run : code_run.Run} {o : Found} → OwnAnswer
 own_stored w {r} {words} {n} st = subst (λ (x : code_run.Run). Stored r words x.entries n) (sym w.carried) st
 
 -- it starts with the state's own answer
-pub kept_start : {r : Bytes} {setting : Setting} {s : code.State} {run : code_run.Run} {least first m : ℕ} {found : Found} {memo desk slate : List ℕ}
-    → OwnAnswer s run found → Entered r s → Next r (pairs r) (state_of s).pieces least first m → Cached r desk × Slate slate → (n : List Entry) × Stored r memo run.entries n
-    → Kept r setting s least first found memo desk slate m found memo desk slate
+pub kept_start : {r : Bytes} {setting : Setting} {s : code.State} {run : code_run.Run} {least first m : ℕ} {found : Found} {memo desk : List ℕ}
+    → OwnAnswer s run found → Entered r s → Next r (pairs r) (state_of s).pieces least first m → Cached r desk → (n : List Entry) × Stored r memo run.entries n
+    → Kept r setting s least first found memo desk m found memo desk
 kept_start {r} {setting} {s} {run} {least = least} {found = found} {memo} w E N d st = record {
   turn = N.turn;
   after = N.after;
@@ -285,9 +295,7 @@ kept_start {r} {setting} {s} {run} {least = least} {found = found} {memo} w E N 
   low = omega arith;
   memos = refl;
   desks = refl;
-  slates = refl;
-  cached = d.0;
-  serves = d.1;
+  cached = d;
   stored = (st.0, own_stored w st.1);
   loops = λ room q n z f h. record {
     memo = n;
@@ -297,8 +305,8 @@ kept_start {r} {setting} {s} {run} {least = least} {found = found} {memo} w E N 
   };
 }
 
-module _ {r : Bytes} {setting : Setting} {s : code.State} {least first : ℕ} {found₀ : Found} {memo₀ desk₀ slate₀ : List ℕ} {m : ℕ} {found : Found} {memo desk slate : List ℕ}
-    (K : Kept r setting s least first found₀ memo₀ desk₀ slate₀ m found memo desk slate) (ok : check r ≡ accepted) where
+module _ {r : Bytes} {setting : Setting} {s : code.State} {least first : ℕ} {found₀ : Found} {memo₀ desk₀ : List ℕ} {m : ℕ} {found : Found} {memo desk : List ℕ}
+    (K : Kept r setting s least first found₀ memo₀ desk₀ m found memo desk) (ok : check r ≡ accepted) where
   -- nothing is left to try
   pub kept_done : m ≡ length (pairs r) → (room : ℕ) → room ≡ memo_room (length memo₀) → (n : List Entry) → Stored r memo₀ found₀.run.entries n → (f : ℕ) → sum_of size (state_of s).pieces ≤ suc f
       → (k : List Entry) × Stored r memo found.run.entries k × (whole_of r setting room f s least first found₀ n ≡ answers found.index (take found.length found.trail) (run_of found.run k))
@@ -318,11 +326,11 @@ module _ {r : Bytes} {setting : Setting} {s : code.State} {least first : ℕ} {f
 
     -- the child answers, and k is the next to try
     pub kept_next : (x : Found) → g ≡ Ok x → (k : ℕ) → Next r (pairs r) (state_of s).pieces least (m + 1) k → (o : Found) → o ≡ better_of found x
-        → (desk' slate' : List ℕ) → Cached r desk' × Slate slate' → length memo' ≡ length memo → length desk' ≡ length desk → length slate' ≡ length slate
-        → Kept r setting s least first found₀ memo₀ desk₀ slate₀ k o memo' desk' slate'
-    kept_next y z k N o e desk' slate' w l1 l2 l3 =
+        → (desk' : List ℕ) → Cached r desk' → length memo' ≡ length memo → length desk' ≡ length desk
+        → Kept r setting s least first found₀ memo₀ desk₀ k o memo' desk'
+    kept_next y z k N o e desk' w l1 l2 =
         let x = found_next r setting (memo_room (length memo)) c found y memo memo' (rw z at W) K.stored.0 K.stored.1 K.short in
-        subst (λ (y : Found). Kept r setting s least first found₀ memo₀ desk₀ slate₀ k y memo' desk' slate') (sym e)
+        subst (λ (y : Found). Kept r setting s least first found₀ memo₀ desk₀ k y memo' desk') (sym e)
         (record {
           turn = N.turn;
           after = omega (arith, N.after, K.after);
@@ -330,9 +338,7 @@ module _ {r : Bytes} {setting : Setting} {s : code.State} {least first : ℕ} {f
           low = omega (arith, x.1, K.low);
           memos = l1 ∙ K.memos;
           desks = l2 ∙ K.desks;
-          slates = l3 ∙ K.slates;
-          cached = w.0;
-          serves = w.1;
+          cached = w;
           stored = x.2;
           loops = λ room q n st f h. loop_answers r ok setting room f s E least m found memo _ (K.loops room q n st f h) h K.turn held C c B g memo' (roomy room q) y z k N;
         })

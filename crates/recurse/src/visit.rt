@@ -1,14 +1,15 @@
 // The search (src/assembly.rs): a state is entered, counted, and left with its answer.
 ghost use Rattle.std.specs.Prelude.{◌≡◌, List, ◌≤◌, length};
-ghost use Rattle.canonize.specs.Inner.Slate.{Slate};
 ghost use Rattle.search.specs.Setting.{memo_room};
 ghost use Rattle.search.specs.Memo.{Entry};
 ghost use Rattle.branch.specs.Inner.Entered.{Entered};
-ghost use Rattle.desk.specs.Inner.Cached.{Cached, Lent};
+ghost use Rattle.desk.specs.Inner.Cached.{Cached};
 ghost use Rattle.memoize.specs.Inner.Stored.{Stored};
 ghost use Rattle.recurse.specs.Inner.Follows.{MayEnter, MayStart, Visited, Searches, IntStops, gate_of, Gated, OwnAnswer, better_of, Lowered};
 
+use canonize::Slate;
 use memoize::Full;
+use molecule::Molecule;
 use search::Setting;
 use state::State;
 
@@ -68,21 +69,19 @@ fn passed(asked: Result<Option<usize>, Full>, run: Run) -> Result<Gate, Halt>
 
 // Enters a state within the budget; Int or the memo may stop it.
 fn enter(
-    bytes: &[u8],
-    at: &[u64; 65],
+    molecule: &Molecule,
     setting: Setting,
     memo: &mut [u64],
     desk: &mut [u64],
-    slate: &mut [u8],
+    slate: &mut Slate,
     s: &State,
     run: Run,
 ) -> Result<Gate, Halt>
-    requires { Entered bytes.now s.now × Lent bytes.now at.now desk.old slate.old × ((m : List Entry)
-        × Stored bytes.now memo.old run.entries m) }
-    ensures gated { (m : List Entry) → Stored bytes.now memo.old run.entries m
-        → Gated bytes.now setting (memo_room (length memo.old)) s.now run m memo.new result }
-    ensures cached { Cached bytes.now desk.new }
-    ensures slate { Slate slate.new }
+    requires { Entered molecule.now.bytes.now s.now × Cached molecule.now.bytes.now desk.old × ((m : List Entry)
+        × Stored molecule.now.bytes.now memo.old run.entries m) }
+    ensures gated { (m : List Entry) → Stored molecule.now.bytes.now memo.old run.entries m
+        → Gated molecule.now.bytes.now setting (memo_room (length memo.old)) s.now run m memo.new result }
+    ensures cached { Cached molecule.now.bytes.now desk.new }
 {
     if setting.budget <= run.states {
         return Err(Halt::Budget(setting.budget));
@@ -98,8 +97,7 @@ fn enter(
         return Ok(Gate::Goes(next));
     }
     let asked = memoize::ask(
-        bytes,
-        at,
+        molecule,
         memo,
         run.entries,
         &s.pieces[..s.count],
@@ -149,63 +147,64 @@ fn lowered(found: Found) -> Found
 
 // Enters a state and, unless it is stopped, each child in turn, with what is carried then; at the end best is lowered to the least answer.
 fn visit(
-    bytes: &[u8],
-    at: &[u64; 65],
-    touch: &[u64; 64],
+    molecule: &Molecule,
     pairs: &[u64],
     setting: Setting,
     memo: &mut [u64],
     desk: &mut [u64],
-    slate: &mut [u8],
+    slate: &mut Slate,
     s: &State,
     run: Run,
 ) -> Result<Found, Halt>
-    requires { MayEnter bytes.now at.now touch.now pairs.now memo.old desk.old slate.old s.now run }
-    ensures follows { (m : List Entry) → Stored bytes.now memo.old run.entries m
-        → Visited bytes.now setting (memo_room (length memo.old)) s.now run m result memo.new }
-    ensures cached { Cached bytes.now desk.new }
-    ensures slate { Slate slate.new }
+    requires { MayEnter molecule.now.bytes.now pairs.now memo.old desk.old s.now run }
+    ensures follows { (m : List Entry) → Stored molecule.now.bytes.now memo.old run.entries m
+        → Visited molecule.now.bytes.now setting (memo_room (length memo.old)) s.now run m result memo.new }
+    ensures cached { Cached molecule.now.bytes.now desk.new }
 {
-    let next = match enter(bytes, at, setting, memo, desk, slate, s, run)? {
+    let next = match enter(molecule, setting, memo, desk, slate, s, run)? {
         Gate::Stops(next) => return Ok(own_answer(s, next)),
         Gate::Goes(next) => next,
     };
     let mut found = own_answer(s, next);
     let matches = pairs.len() / 4;
-    let b = branch::branch_of(touch, pairs, matches, setting.bounds, *s, next.best);
+    let b = branch::branch_of(
+        &molecule.touch,
+        pairs,
+        matches,
+        setting.bounds,
+        *s,
+        next.best,
+    );
     let mut m = branch::next(pairs, b.first, matches, &b.own, b.all, b.least);
     // A while: which match comes next is found by a search of its own.
     while m < matches {
-        let c = branch::below(touch, pairs, *s, &b.held[..b.count], m);
-        let child = visit(
-            bytes, at, touch, pairs, setting, memo, desk, slate, &c, found.run,
-        )?;
+        let c = branch::below(&molecule.touch, pairs, *s, &b.held[..b.count], m);
+        let child = visit(molecule, pairs, setting, memo, desk, slate, &c, found.run)?;
         found = better(found, child);
         m = branch::next(pairs, m + 1, matches, &b.own, b.all, b.least);
     }
     Ok(lowered(found))
 }
 
-// The search of a record of n bonds, from the root and with best n - 1.
+// The search of a molecule of n bonds, from the root and with best n - 1.
+#[tactic(auto, using(search::proofs::Parts::few, search::proofs::Parts::some))]
 pub fn search(
-    bytes: &[u8],
-    at: &[u64; 65],
-    touch: &[u64; 64],
+    molecule: &Molecule,
     pairs: &[u64],
     setting: Setting,
     memo: &mut [u64],
     desk: &mut [u64],
-    slate: &mut [u8],
-    n: usize,
+    slate: &mut Slate,
 ) -> Result<Found, Halt>
-    requires { MayStart bytes.now at.now touch.now pairs.now memo.old desk.old slate.old n }
-    ensures follows { Searches bytes.now setting (memo_room (length memo.old)) result memo.new }
+    requires { MayStart molecule.now.bytes.now pairs.now memo.old desk.old }
+    ensures { Searches molecule.now.bytes.now setting (memo_room (length memo.old)) result memo.new }
 {
+    let n = molecule.bonds();
     let s = state::root(n);
     let run = Run {
         best: n as u32 - 1,
         states: 0,
         entries: 0,
     };
-    visit(bytes, at, touch, pairs, setting, memo, desk, slate, &s, run)
+    visit(molecule, pairs, setting, memo, desk, slate, &s, run)
 }

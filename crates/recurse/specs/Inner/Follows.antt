@@ -1,10 +1,11 @@
 -- What the code's search answers, as the outcome of its definition.
-use Rattle.std.specs.Prelude.{◌≡◌, Bool, List, [], ℕ, suc, ◌-◌, ◌/◌, ◌≤◌, min, Option, Some, None, Result, Ok, Err, length, take, ltb}
+use Rattle.std.specs.Prelude.{◌≡◌, Bool, List, [], ℕ, suc, ◌-◌, ◌*◌, ◌≤◌, min, Option, Some, None, Result, Ok, Err, length, take, ltb}
 use Rattle.bitset.specs.Bits.{size}
 use Rattle.molecule.specs.Lists.{Bytes, pick}
 use Rattle.molecule.specs.Record.{bonds}
 use Rattle.bounds.specs.Numbers.{sum_of}
 use Rattle.matches.specs.Table.{Pair, pairs}
+use Rattle.matches.specs.Inner.Written.{Recorded}
 use Rattle.search.specs.Setting.{Setting}
 use Rattle.search.specs.Memo.{Entry}
 use Rattle.search.specs.Search as search
@@ -17,8 +18,8 @@ use Rattle.recurse.specs.declared.visit.Gate.{Gate}
 use Rattle.recurse.specs.declared.visit.Gate.TheVariants.{Goes, Stops}
 use Rattle.memoize.specs.declared.Full.{Full}
 use Rattle.state.specs.Inner.Views.{state_of}
-use Rattle.branch.specs.Inner.Entered.{Searched, Entered}
-use Rattle.desk.specs.Inner.Cached.{Lent}
+use Rattle.branch.specs.Inner.Entered.{Entered}
+use Rattle.desk.specs.Inner.Cached.{Cached}
 use Rattle.memoize.specs.Inner.Stored.{Stored}
 
 -- what the code carries from state to state, with the memo that its table stores
@@ -58,19 +59,24 @@ Searches r setting room o words = Follows r (bonds r - 1) o words (search.search
 
 -- ---- what the search is given
 
--- a state to enter, with what is carried so far; the words of pairs are those of the matches and no more
-pub record MayEnter (r : Bytes) (at touch words memo desk slate : List ℕ) (s : State) (run : Run) : Type 0 where
-  pub searched : Searched r at touch words (length words / 4)
+-- the words are those of the record's matches, and no more
+pub record Tabled (r : Bytes) (words : List ℕ) : Type 0 where
+  pub recorded : Recorded words (pairs r)
+  pub long : length words ≡ 4 * length (pairs r)
+  pub few : length (pairs r) ≤ 4294967295
+
+-- a state to enter, with what is carried so far
+pub record MayEnter (r : Bytes) (words memo desk : List ℕ) (s : State) (run : Run) : Type 0 where
+  pub tabled : Tabled r words
   pub entered : Entered r s
   pub low : run.best ≤ 64
-  pub lent : Lent r at desk slate
+  pub cached : Cached r desk
   pub stored : (m : List Entry) × Stored r memo run.entries m
 
--- a record of n bonds, and an empty memo
-pub record MayStart (r : Bytes) (at touch words memo desk slate : List ℕ) (n : ℕ) : Type 0 where
-  pub searched : Searched r at touch words (length words / 4)
-  pub many : bonds r ≡ n
-  pub lent : Lent r at desk slate
+-- an empty memo, and a desk on which what is said holds
+pub record MayStart (r : Bytes) (words memo desk : List ℕ) : Type 0 where
+  pub tabled : Tabled r words
+  pub cached : Cached r desk
   pub stored : Stored r memo 0 []
 
 -- ---- entering a state

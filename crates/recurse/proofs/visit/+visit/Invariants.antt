@@ -10,7 +10,7 @@ abbrev pub decreases-visit : goal.decreases-visit
 decreases-visit l = sum_of size (state_of l.s.now).pieces
 
 abbrev pub invariant-loop-m : goal.invariant-loop-m
-invariant-loop-m l = Kept l.bytes l.setting l.s l.b.least l.b.first l.initial.found l.initial.memo l.initial.desk l.initial.slate l.m l.found l.memo l.desk l.slate
+invariant-loop-m l = Kept l.molecule.bytes.now l.setting l.s l.b.least l.b.first l.initial.found l.initial.memo l.initial.desk l.m l.found l.memo l.desk
 
 abbrev pub decreases-loop-m : goal.decreases-loop-m
 decreases-loop-m l = l.matches - l.m
