@@ -1,5 +1,5 @@
 -- score's answer, row by row, what is lent to it afterwards, and demand 3. Assumes nothing.
-use Rattle.std.proofs.Common.{◌≡◌, refl, sym, ap, ◌∙◌, Bool, true, false, ◌||◌, ⊎_elim, List, [], ◌++◌, ℕ, ◌-◌, ◌*◌, ◌≤◌, ◌<◌, arith, length, take, drop, replicate, length-take, take_at, ltb, lt-ltb, le-ltb, le-leb}
+use Rattle.std.proofs.Common.{◌≡◌, Result, Ok, Err, refl, sym, ap, ◌∙◌, Bool, true, false, ◌||◌, ⊎_elim, List, [], ◌++◌, ℕ, ◌-◌, ◌*◌, ◌≤◌, ◌<◌, arith, length, take, drop, replicate, length-take, take_at, ltb, lt-ltb, le-ltb, le-leb}
 use Rattle.std.proofs.Math.ListN.{length-replicate}
 use borrow.Author.Tests.{lt-leb}
 use Rattle.bitset.proofs.Bools.{or_left, or_right}
@@ -23,12 +23,15 @@ use Rattle.search.specs.Search as definition
 use Rattle.search.specs.Answer.{ScoreAnswer, scored, turned_back, entry_answer, searched, score_answer, trail_after, table_after}
 use Rattle.search.specs.Answer.{Finished}
 use Rattle.search.proofs.Score as score
-use Rattle.assembly.specs.declared.answer.Scored.{Scored}
-use Rattle.assembly.specs.declared.answer.Scored.TheVariants as says
+use Rattle.assembly.specs.declared.answer.Score.{Score}
+use Rattle.assembly.specs.declared.answer.ScoreRefusal.{ScoreRefusal}
+use Rattle.assembly.specs.declared.answer.ScoreRefusal.TheVariants as says
+use Rattle.recurse.specs.declared.visit.Halt.{Halt}
+use Rattle.recurse.specs.declared.visit.Halt.TheVariants as halt
 use Rattle.recurse.specs.declared.visit.Found.{Found}
 use Rattle.desk.specs.Inner.Cached.{Cached}
 use Rattle.memoize.specs.Inner.Stored.{Stored}
-use Rattle.recurse.specs.Inner.Follows.{found_as}
+use Rattle.recurse.specs.Inner.Follows.{found_as, halted_as}
 use Rattle.assembly.specs.Answer.{Loan, room_of, answer_of, answer_to, Leaves}
 use Rattle.assembly.specs.Contract.{Answers}
 use Rattle.assembly.specs.Inner.Parts.{search_answer, AnswerTold, Admitted, TablesZero}
@@ -164,7 +167,7 @@ module _ (r : Bytes) (setting : Setting) (lent : Loan) (w : Admitted r setting l
       zeros : (words now : List ℕ) → now ≡ replicate (length words) 0 → now ≡ table_after (answer_to r setting lent) words
       zeros = zeros_after r setting (room_of lent) entry
 
-  module _ (x : Scored) where
+  module _ (x : Result Score ScoreRefusal) where
     -- turned back by the table: the row, and the trail as it was
     pub told_table : (k p : ℕ) → answer_of x lent.trail ≡ turned_back k p → built.turned_back k p ≡ built.build_answer r (length lent.parts) (length lent.pairs) → AnswerTold (answer_to r setting lent) x lent.trail lent.trail
     unfolding trail_after
@@ -208,7 +211,7 @@ module _ (r : Bytes) (setting : Setting) (memo : List ℕ) (m : ℕ) (same : m �
   -- what is found, whose removals are written into the trail: a score
   pub told_score : (o : Found) (k : List Entry) → definition.search r (pairs r) setting (memo_room m) ≡ found_as o k → length o.trail ≡ 32 → o.length ≤ 32
       → (n : ℕ) → n ≡ length (pairs r) → (old : List ℕ)
-      → AnswerTold (search_answer r setting memo) (says.Score (record { index = o.index; matches = n; states = o.run.states; length = o.length })) old
+      → AnswerTold (search_answer r setting memo) (Ok (record { index = o.index; matches = n; states = o.run.states; length = o.length })) old
       (take o.length o.trail ++ (replicate (32 - length (take o.length o.trail)) 0 ++ drop 32 old))
   unfolding searched trail_after
   told_score o k e l few n c old =
@@ -217,13 +220,10 @@ module _ (r : Bytes) (setting : Setting) (memo : List ℕ) (m : ℕ) (same : m �
       rw (answer_is _ e, c ∙ pairs_length (match_table r)) (record { answer = ap (scored o.index (length (match_table r).matches) o.run.states) front; ends = refl })
 
   -- rows 11 and 12, and the trail as it was
-  pub told_budget : (n : ℕ) → definition.search r (pairs r) setting (memo_room m) ≡ definition.halts 11 n → (old : List ℕ) → AnswerTold (search_answer r setting memo) (says.Budget n) old old
+  pub told_halt : (h : Halt) → definition.search r (pairs r) setting (memo_room m) ≡ halted_as h → (old : List ℕ) → AnswerTold (search_answer r setting memo) (Err (says.Halt h)) old old
   unfolding searched trail_after
-  told_budget n e old = rw (answer_is _ e) (record { answer = refl; ends = refl })
-
-  pub told_memo : (n : ℕ) → definition.search r (pairs r) setting (memo_room m) ≡ definition.halts 12 n → (old : List ℕ) → AnswerTold (search_answer r setting memo) (says.Memo n) old old
-  unfolding searched trail_after
-  told_memo n e old = rw (answer_is _ e) (record { answer = refl; ends = refl })
+  told_halt (halt.Budget n) e old = rw (answer_is _ e) (record { answer = refl; ends = refl })
+  told_halt (halt.Memo n) e old = rw (answer_is _ e) (record { answer = refl; ends = refl })
 
 -- ---- demand 3
 
@@ -248,14 +248,14 @@ demanded r setting room index matches states trail e = record {
   within = score.states_within r setting room index matches states trail e;
 }
 
--- so it holds of what score's enum says, with the trail then
-pub answers_by : {r : Bytes} {setting : Setting} {lent now : Loan} {x : Scored} → answer_of x now.trail ≡ answer_to r setting lent → Leaves (answer_to r setting lent) lent now → Answers r setting lent now x
+-- so it holds of what score's result says, with the trail then
+pub answers_by : {r : Bytes} {setting : Setting} {lent now : Loan} {x : Result Score ScoreRefusal} → answer_of x now.trail ≡ answer_to r setting lent → Leaves (answer_to r setting lent) lent now → Answers r setting lent now x
 answers_by {r} {setting} {lent} {now} {x} e l = record {
   answer = e;
   leaves = l;
-  demand3 = λ s f. demanded r setting (room_of lent) s.index s.matches s.states (take s.length now.trail) (sym e ∙ ap (λ (y : Scored). answer_of y now.trail) f);
+  demand3 = λ s f. demanded r setting (room_of lent) s.index s.matches s.states (take s.length now.trail) (sym e ∙ ap (λ (y : Result Score ScoreRefusal). answer_of y now.trail) f);
 }
 
 -- and of a record that rows 1 to 8 turn back
-pub answers_early : {r : Bytes} {setting : Setting} {lent : Loan} {x : Scored} {k p : ℕ} → Early (answer_to r setting lent) k p → answer_of x lent.trail ≡ turned_back k p → Answers r setting lent lent x
+pub answers_early : {r : Bytes} {setting : Setting} {lent : Loan} {x : Result Score ScoreRefusal} {k p : ℕ} → Early (answer_to r setting lent) k p → answer_of x lent.trail ≡ turned_back k p → Answers r setting lent lent x
 answers_early {lent = lent} w f = answers_by (f ∙ w.answer) (w.leaves lent)

@@ -1,22 +1,36 @@
--- What score's enum says in document 01's numbers and values, and what is lent to it, before and after.
-use Rattle.std.specs.Prelude.{◌≡◌, List, ℕ, length, take}
+-- What score's result says in document 01's numbers and values, and what is lent to it, before and after.
+use Rattle.std.specs.Prelude.{◌≡◌, List, ℕ, length, take, Result, Ok, Err}
 use Rattle.molecule.specs.Verdict.{number_of, place_of}
 use Rattle.molecule.specs.Lists.{Bytes}
 use Rattle.search.specs.Setting.{Setting, Room}
 use Rattle.search.specs.Answer.{ScoreAnswer, scored, turned_back, score_answer, trail_after, table_after}
-use Rattle.assembly.specs.declared.answer.Scored.{Scored}
-use Rattle.assembly.specs.declared.answer.Scored.TheVariants as says
+use Rattle.tabulate.specs.Built.{full_number, full_place}
+use Rattle.recurse.specs.declared.visit.Halt.TheVariants as halts
+use Rattle.assembly.specs.declared.answer.Score.{Score}
+use Rattle.assembly.specs.declared.answer.ScoreRefusal.{ScoreRefusal}
+use Rattle.assembly.specs.declared.answer.ScoreRefusal.TheVariants as says
+
+-- a refusal's row of document 01, and its place
+abbrev pub refusal_number : ScoreRefusal → ℕ
+refusal_number (says.Record f) = number_of f
+refusal_number says.Setting = 7
+refusal_number says.Lent = 8
+refusal_number (says.Full f) = full_number f
+refusal_number (says.Halt (halts.Budget n)) = 11
+refusal_number (says.Halt (halts.Memo n)) = 12
+
+abbrev pub refusal_place : ScoreRefusal → ℕ
+refusal_place (says.Record f) = place_of f
+refusal_place says.Setting = 0
+refusal_place says.Lent = 0
+refusal_place (says.Full f) = full_place f
+refusal_place (says.Halt (halts.Budget n)) = n
+refusal_place (says.Halt (halts.Memo n)) = n
 
 -- a score's index, matches and states, with the removals that the trail has then; or the row's number and place
-abbrev pub answer_of : Scored → List ℕ → ScoreAnswer
-answer_of (says.Score s) trail = scored s.index s.matches s.states (take s.length trail)
-answer_of (says.Record f) trail = turned_back (number_of f) (place_of f)
-answer_of says.Setting trail = turned_back 7 0
-answer_of says.Lent trail = turned_back 8 0
-answer_of (says.Parts k) trail = turned_back 9 k
-answer_of (says.Pairs n) trail = turned_back 10 n
-answer_of (says.Budget n) trail = turned_back 11 n
-answer_of (says.Memo n) trail = turned_back 12 n
+abbrev pub answer_of : Result Score ScoreRefusal → List ℕ → ScoreAnswer
+answer_of (Ok s) trail = scored s.index s.matches s.states (take s.length trail)
+answer_of (Err f) trail = turned_back (refusal_number f) (refusal_place f)
 
 -- what is lent to score: the trail and the four tables
 pub record Loan : Type 0 where

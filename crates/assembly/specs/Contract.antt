@@ -1,15 +1,14 @@
 -- score's contract. Of every record, setting and loan: the answer is document 01's, the loan ends as document 01 says, and of a score demand 3 holds.
-use Rattle.std.specs.Prelude.{◌≡◌, take}
+use Rattle.std.specs.Prelude.{◌≡◌, take, Result, Ok}
 use Rattle.molecule.specs.Lists.{Bytes}
 use Rattle.search.specs.Setting.{Setting}
 use Rattle.assembly.specs.declared.answer.Score.{Score}
-use Rattle.assembly.specs.declared.answer.Scored.{Scored}
-use Rattle.assembly.specs.declared.answer.Scored.TheVariants as says
+use Rattle.assembly.specs.declared.answer.ScoreRefusal.{ScoreRefusal}
 use Rattle.assembly.specs.Answer.{Loan, answer_of, answer_to, Leaves}
 use Rattle.assembly.specs.Demand.{Demand3}
 
 -- what was lent is now, and the call has answered
-pub record Answers (r : Bytes) (setting : Setting) (lent now : Loan) (scored : Scored) : Type 0 where
-  pub answer : answer_of scored now.trail ≡ answer_to r setting lent
+pub record Answers (r : Bytes) (setting : Setting) (lent now : Loan) (answered : Result Score ScoreRefusal) : Type 0 where
+  pub answer : answer_of answered now.trail ≡ answer_to r setting lent
   pub leaves : Leaves (answer_to r setting lent) lent now
-  pub demand3 : (s : Score) → scored ≡ says.Score s → Demand3 r setting.memo setting.budget s.index s.states (take s.length now.trail)
+  pub demand3 : (s : Score) → answered ≡ Ok s → Demand3 r setting.memo setting.budget s.index s.states (take s.length now.trail)

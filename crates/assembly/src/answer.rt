@@ -1,8 +1,12 @@
 // What score answers.
-use molecule::Fault;
+ghost use Rattle.std.specs.Prelude.{◌≡◌};
+
+use molecule::{Fault, Refusal};
+use recurse::visit::Halt;
+use tabulate::build::Full;
 
 // The index, the matches of the record, the states entered, and how many removals the trail has.
-#[derive(Clone, Copy)]
+#[derive(Clone, Copy, Debug, PartialEq, Eq)]
 pub struct Score {
     pub index: u32,
     pub matches: u64,
@@ -10,18 +14,71 @@ pub struct Score {
     pub length: u32,
 }
 
-// A score, or a row of document 01. Rows 1 to 6: why the record is turned back. 7: the setting. 8: the trail or the desk is too short. 9: the size
-// at which parts has no room.
-// 10: the matches there are, for which pairs has no room. 11: the budget, which the search would exceed. 12: the states entered when every entry of
-// the memo was used.
-#[derive(Clone, Copy)]
-pub enum Scored {
-    Score(Score),
+// Why a record is not scored: rows 1 to 6 of document 01, the record; 7, the setting; 8, the trail or the desk, which is too short; 9 and 10, a table;
+// 11 and 12, what ends the search early.
+#[derive(Clone, Copy, Debug, PartialEq, Eq)]
+pub enum ScoreRefusal {
     Record(Fault),
     Setting,
     Lent,
-    Parts(u64),
-    Pairs(u64),
-    Budget(u64),
-    Memo(u64),
+    Full(Full),
+    Halt(Halt),
+}
+
+impl From<Fault> for ScoreRefusal {
+    ghost use Rattle.assembly.specs.declared.answer.ScoreRefusal.TheVariants.{Record};
+
+    ghost from_gives = { λ fault refusal. refusal ≡ Record fault };
+
+    fn from(fault: Fault) -> ScoreRefusal {
+        ScoreRefusal::Record(fault)
+    }
+}
+
+impl From<Full> for ScoreRefusal {
+    ghost use Rattle.assembly.specs.declared.answer.ScoreRefusal.TheVariants.{Full as full_variant};
+
+    ghost from_gives = { λ full refusal. refusal ≡ full_variant full };
+
+    fn from(full: Full) -> ScoreRefusal {
+        ScoreRefusal::Full(full)
+    }
+}
+
+impl From<Halt> for ScoreRefusal {
+    ghost use Rattle.assembly.specs.declared.answer.ScoreRefusal.TheVariants.{Halt as halt_variant};
+
+    ghost from_gives = { λ halt refusal. refusal ≡ halt_variant halt };
+
+    fn from(halt: Halt) -> ScoreRefusal {
+        ScoreRefusal::Halt(halt)
+    }
+}
+
+impl Refusal for ScoreRefusal {
+    ghost use Rattle.assembly.specs.Answer.{refusal_number, refusal_place};
+
+    ghost number_of = { refusal_number };
+
+    ghost place_of = { refusal_place };
+
+    fn number(self) -> u32 {
+        match self {
+            ScoreRefusal::Record(fault) => fault.number(),
+            ScoreRefusal::Setting => 7,
+            ScoreRefusal::Lent => 8,
+            ScoreRefusal::Full(full) => full.number(),
+            ScoreRefusal::Halt(Halt::Budget(_)) => 11,
+            ScoreRefusal::Halt(Halt::Memo(_)) => 12,
+        }
+    }
+
+    fn place(self) -> u64 {
+        match self {
+            ScoreRefusal::Record(fault) => fault.place(),
+            ScoreRefusal::Setting | ScoreRefusal::Lent => 0,
+            ScoreRefusal::Full(full) => full.place(),
+            ScoreRefusal::Halt(Halt::Budget(n) | Halt::Memo(n)) => u64::from(n),
+        }
+    }
 }

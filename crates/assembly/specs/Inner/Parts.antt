@@ -1,12 +1,13 @@
 -- The parts of score's answer: the search's, and the four tables cleared.
-use Rattle.std.specs.Prelude.{◌≡◌, List, ℕ, ◌≤◌, length, replicate}
+use Rattle.std.specs.Prelude.{◌≡◌, List, ℕ, ◌≤◌, length, replicate, Result}
 use Rattle.molecule.specs.Lists.{Bytes}
 use Rattle.molecule.specs.Check.{check, accepted}
 use Rattle.matches.specs.Table.{match_table, pairs}
 use Rattle.search.specs.Setting.{Setting, memo_room}
 use Rattle.search.specs.Search.{search}
 use Rattle.search.specs.Answer.{ScoreAnswer, searched, trail_after}
-use Rattle.assembly.specs.declared.answer.Scored.{Scored}
+use Rattle.assembly.specs.declared.answer.Score.{Score}
+use Rattle.assembly.specs.declared.answer.ScoreRefusal.{ScoreRefusal}
 use Rattle.assembly.specs.Answer.{Loan, answer_of}
 
 -- the answer of the search with a memo table of these words: a score, or row 11 or 12
@@ -14,8 +15,8 @@ abbrev pub search_answer : Bytes → Setting → List ℕ → ScoreAnswer
 search_answer r setting memo = searched (match_table r) (search r (pairs r) setting (memo_room (length memo)))
 
 -- the answer is a, and the trail ends as it says
-pub record AnswerTold (a : ScoreAnswer) (scored : Scored) (trail now : List ℕ) : Type 0 where
-  pub answer : answer_of scored now ≡ a
+pub record AnswerTold (a : ScoreAnswer) (answered : Result Score ScoreRefusal) (trail now : List ℕ) : Type 0 where
+  pub answer : answer_of answered now ≡ a
   pub ends : now ≡ trail_after a trail
 
 -- none of rows 1 to 8 applies
