@@ -14,6 +14,7 @@ use Rattle.matches.specs.Table.{match_table, pairs}
 use Rattle.matches.specs.Rows.{table_answer}
 use Rattle.matches.specs.Inner.Written.{Recorded}
 use Rattle.tabulate.specs.Built as built
+use Rattle.tabulate.specs.declared.build.Full.TheVariants as full
 use Rattle.tabulate.specs.Inner.PairsLeft.{pairs_after}
 use Rattle.matches.proofs.Laws.{pairs_length, table_refused, table_fits}
 use Rattle.tabulate.proofs.Answering.{counted_is, refused_is, after_room, after_recorded, after_length}
@@ -32,7 +33,7 @@ use Rattle.recurse.specs.declared.visit.Found.{Found}
 use Rattle.desk.specs.Inner.Cached.{Cached}
 use Rattle.memoize.specs.Inner.Stored.{Stored}
 use Rattle.recurse.specs.Inner.Follows.{found_as, halted_as}
-use Rattle.assembly.specs.Answer.{Loan, room_of, answer_of, answer_to, Leaves}
+use Rattle.assembly.specs.Answer.{refusal_number, Loan, room_of, answer_of, answer_to, Leaves}
 use Rattle.assembly.specs.Contract.{Answers}
 use Rattle.assembly.specs.Inner.Parts.{search_answer, AnswerTold, Admitted, TablesZero}
 use Rattle.assembly.specs.Demand.{Demand3}
@@ -224,6 +225,26 @@ module _ (r : Bytes) (setting : Setting) (memo : List ℕ) (m : ℕ) (same : m �
   unfolding searched trail_after
   told_halt (halt.Budget n) e old = rw (answer_is _ e) (record { answer = refl; ends = refl })
   told_halt (halt.Memo n) e old = rw (answer_is _ e) (record { answer = refl; ends = refl })
+
+-- ---- for the crates above
+
+fault_some : (f : Fault) → 0 < number_of f
+fault_some (fault.Length l) = omega arith
+fault_some fault.Counts = omega arith
+fault_some (fault.Element v) = omega arith
+fault_some (fault.Code i) = omega arith
+fault_some (fault.Ends i) = omega arith
+fault_some (fault.Unreached v) = omega arith
+
+-- every refusal has a number over 0
+pub refusal_some : (f : ScoreRefusal) → 0 < refusal_number f
+refusal_some (says.Record f) = fault_some f
+refusal_some says.Setting = omega arith
+refusal_some says.Lent = omega arith
+refusal_some (says.Full (full.Parts k)) = omega arith
+refusal_some (says.Full (full.Pairs n)) = omega arith
+refusal_some (says.Halt (halt.Budget n)) = omega arith
+refusal_some (says.Halt (halt.Memo n)) = omega arith
 
 -- ---- demand 3
 

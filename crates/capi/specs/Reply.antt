@@ -1,13 +1,12 @@
 -- score's answer in the fields of the C reply.
-use Rattle.std.specs.Prelude.{◌≡◌, ℕ, length, take, Result, MatchResult}
+use Rattle.std.specs.Prelude.{◌≡◌, ℕ, length, take, Result, Ok, Err, MatchResult}
 use Rattle.molecule.specs.Lists.{Bytes}
-use Rattle.molecule.specs.Verdict.{number_of, place_of}
 use Rattle.search.specs.Setting.{Setting}
 use Rattle.search.specs.Answer.{ScoreAnswer, scored, turned_back}
-use Rattle.assembly.specs.Answer.{Loan, answer_to, Leaves}
+use Rattle.assembly.specs.Answer.{Loan, answer_to, Leaves, refusal_number, refusal_place}
 use Rattle.assembly.specs.Demand.{Demand3}
-use Rattle.assembly.specs.declared.answer.Scored.{Scored}
-use Rattle.assembly.specs.declared.answer.Scored.TheVariants as says
+use Rattle.assembly.specs.declared.answer.Score.{Score}
+use Rattle.assembly.specs.declared.answer.ScoreRefusal.{ScoreRefusal}
 use Rattle.capi.specs.declared.Reply.{Reply}
 use Rattle.capi.specs.declared.ScoreReply.{ScoreReply}
 
@@ -67,13 +66,7 @@ pub record Answered (r : Bytes) (setting : Setting) (lent now : Loan) (reply : S
 abbrev pub turned : ℕ → ℕ → ScoreReply
 turned number place = record { number = number; index = 0; place = place; matches = 0; states = 0; length = 0 }
 
--- the reply to each case of score's enum
-abbrev pub reply_of : Scored → ScoreReply
-reply_of (says.Score s) = record { number = 0; index = s.index; place = 0; matches = s.matches; states = s.states; length = s.length }
-reply_of (says.Record f) = turned (number_of f) (place_of f)
-reply_of says.Setting = turned 7 0
-reply_of says.Lent = turned 8 0
-reply_of (says.Parts k) = turned 9 k
-reply_of (says.Pairs n) = turned 10 n
-reply_of (says.Budget n) = turned 11 n
-reply_of (says.Memo n) = turned 12 n
+-- the reply to score's result
+abbrev pub reply_of : Result Score ScoreRefusal → ScoreReply
+reply_of (Ok s) = record { number = 0; index = s.index; place = 0; matches = s.matches; states = s.states; length = s.length }
+reply_of (Err f) = turned (refusal_number f) (refusal_place f)

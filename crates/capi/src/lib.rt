@@ -5,12 +5,11 @@ ghost use Rattle.molecule.specs.Check.{check, number, place};
 ghost use Rattle.canonize.specs.Answer.{number as label_number, value as label_value, label_answer, buffer_after};
 ghost use Rattle.tabulate.specs.Counted.{number as count_number, value as count_value, count_answer, table_after};
 ghost use Rattle.assembly.specs.Answer.{loan};
-ghost use Rattle.capi.specs.Reply.{asked, turned, reply_of, Answered};
+ghost use Rattle.capi.specs.Reply.{asked, turned, Answered};
 
-use assembly::answer::Scored;
+use assembly::answer::{Score, ScoreRefusal};
 use assembly::{Setting, score};
 use molecule::Refusal;
-use tabulate::count::Counted;
 
 // Document 01's number, 0 where there is no refusal, and its place, or for a label its length, for matches how many there are.
 #[repr(C)]
@@ -62,24 +61,7 @@ pub fn assembly_matches(bytes: &[u8], parts: &mut [u64], pairs: &mut [u64]) -> R
     ensures parts { parts.new ≡ table_after bytes.now parts.old }
     ensures pairs { pairs.new ≡ table_after bytes.now pairs.old }
 {
-    match tabulate::count::count(bytes, parts, pairs) {
-        Counted::Count(n) => Reply {
-            number: 0,
-            place: n,
-        },
-        Counted::Record(fault) => Reply {
-            number: fault.number(),
-            place: fault.place(),
-        },
-        Counted::Parts(k) => Reply {
-            number: 9,
-            place: k,
-        },
-        Counted::Pairs(n) => Reply {
-            number: 10,
-            place: n,
-        },
-    }
+    Reply::from(tabulate::count::count(bytes, parts, pairs))
 }
 
 // score's answer. Number 0: the index, the matches, the states entered, and how many removals the trail has; place is 0. Else the row and its place;
@@ -109,26 +91,23 @@ fn row(number: u32, place: u64) -> ScoreReply
     }
 }
 
-// The reply to each case of score's enum.
-fn replied(scored: Scored) -> ScoreReply
-    ensures { result ≡ reply_of scored }
-{
-    match scored {
-        Scored::Score(s) => ScoreReply {
-            number: 0,
-            index: s.index,
-            place: 0,
-            matches: s.matches,
-            states: s.states,
-            length: s.length,
-        },
-        Scored::Record(fault) => row(fault.number(), fault.place()),
-        Scored::Setting => row(7, 0),
-        Scored::Lent => row(8, 0),
-        Scored::Parts(k) => row(9, k),
-        Scored::Pairs(n) => row(10, n),
-        Scored::Budget(n) => row(11, n),
-        Scored::Memo(n) => row(12, n),
+impl From<Result<Score, ScoreRefusal>> for ScoreReply {
+    ghost use Rattle.capi.specs.Reply.{reply_of};
+
+    ghost from_gives = { λ answer reply. reply ≡ reply_of answer };
+
+    fn from(answer: Result<Score, ScoreRefusal>) -> ScoreReply {
+        match answer {
+            Ok(s) => ScoreReply {
+                number: 0,
+                index: s.index,
+                place: 0,
+                matches: s.matches,
+                states: s.states,
+                length: s.length,
+            },
+            Err(refusal) => row(refusal.number(), refusal.place()),
+        }
     }
 }
 
@@ -153,6 +132,6 @@ pub fn assembly_score(
         memo,
         budget,
     };
-    let scored = score::score(bytes, setting, trail, parts, pairs, entries, desk);
-    replied(scored)
+    let answer = score::score(bytes, setting, trail, parts, pairs, entries, desk);
+    ScoreReply::from(answer)
 }

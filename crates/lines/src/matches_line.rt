@@ -6,7 +6,7 @@ use crate::output::Output;
 use crate::words::Words;
 use crate::{hex, noise, numbers};
 use tabulate::count;
-use tabulate::count::Counted;
+use tabulate::count::CountRefusal;
 
 // How many words each table has.
 #[derive(Clone, Copy)]
@@ -23,10 +23,8 @@ pub fn answer<P: Print>(mut words: Words, out: &mut Output<P>) -> Option<()> {
     let record = hex::record(words.next()?, &mut space)?;
     let lengths = table_lengths(words)?;
     match count_with(record, lengths) {
-        Counted::Count(n) => out.print(format_args!("matches {n}")),
-        Counted::Record(fault) => out.refuse(fault),
-        Counted::Parts(size) => out.refuse_row(9, size),
-        Counted::Pairs(n) => out.refuse_row(10, n),
+        Ok(n) => out.print(format_args!("matches {n}")),
+        Err(refusal) => out.refuse(refusal),
     }
     Some(())
 }
@@ -48,7 +46,7 @@ fn table_lengths(mut words: Words) -> Option<Lengths> {
 }
 
 // Counts with tables that hold noise.
-fn count_over(bytes: &[u8], parts: &mut [u64], pairs: &mut [u64]) -> Counted
+fn count_over(bytes: &[u8], parts: &mut [u64], pairs: &mut [u64]) -> Result<u64, CountRefusal>
     ensures { answer_of result ≡ count_answer bytes.now (length parts.old) (length pairs.old) }
 {
     noise::fill(parts);
@@ -57,7 +55,7 @@ fn count_over(bytes: &[u8], parts: &mut [u64], pairs: &mut [u64]) -> Counted
 }
 
 // Counts with tables of so many words.
-fn count_with(bytes: &[u8], lengths: Lengths) -> Counted
+fn count_with(bytes: &[u8], lengths: Lengths) -> Result<u64, CountRefusal>
     ensures { answer_of result ≡ count_answer bytes.now lengths.parts lengths.pairs }
 {
     let mut parts = [0u64; 65536];

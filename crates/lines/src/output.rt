@@ -59,11 +59,6 @@ impl<'a, P: Print> Output<'a, P> {
         let place = refusal.place();
         self.print(format_args!("refused {number} {place}"));
     }
-
-    // Puts `refused NUMBER PLACE`.
-    pub fn refuse_row(&mut self, number: u32, place: u64) {
-        self.print(format_args!("refused {number} {place}"));
-    }
 }
 
 impl<P: Print> Write for Output<'_, P> {

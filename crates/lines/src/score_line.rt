@@ -4,7 +4,7 @@ ghost use Rattle.std.specs.Prelude.{◌≤◌};
 use crate::output::Output;
 use crate::words::Words;
 use crate::{hex, noise, numbers};
-use assembly::answer::{Score, Scored};
+use assembly::answer::{Score, ScoreRefusal};
 use assembly::{Setting, score};
 
 // How many elements the trail and each table have. The program has room for as many.
@@ -81,7 +81,7 @@ fn score_over(
     pairs: &mut [u64],
     memo: &mut [u64],
     desk: &mut [u64],
-) -> Scored {
+) -> Result<Score, ScoreRefusal> {
     noise::fill(trail);
     noise::fill(parts);
     noise::fill(pairs);
@@ -98,7 +98,7 @@ fn put_score<P: Print>(bytes: &[u8], setting: Setting, lent: Lent, out: &mut Out
     let mut memo = [0u64; 163840];
     let mut desk = [0u64; 5000];
     let trail = &mut removals[..lent.trail];
-    let scored = score_over(
+    let answer = score_over(
         bytes,
         setting,
         trail,
@@ -107,20 +107,14 @@ fn put_score<P: Print>(bytes: &[u8], setting: Setting, lent: Lent, out: &mut Out
         &mut memo[..lent.memo],
         &mut desk[..lent.desk],
     );
-    put_scored(scored, trail, out);
+    put_answer(answer, trail, out);
 }
 
 // Puts `scored INDEX MATCHES STATES K T0 T1 ..` or `refused NUMBER PLACE`.
-fn put_scored<P: Print>(scored: Scored, trail: &[u32], out: &mut Output<P>) {
-    match scored {
-        Scored::Score(s) => put_held(s, trail, out),
-        Scored::Record(fault) => out.refuse(fault),
-        Scored::Setting => out.refuse_row(7, 0),
-        Scored::Lent => out.refuse_row(8, 0),
-        Scored::Parts(size) => out.refuse_row(9, size),
-        Scored::Pairs(n) => out.refuse_row(10, n),
-        Scored::Budget(n) => out.refuse_row(11, n),
-        Scored::Memo(n) => out.refuse_row(12, n),
+fn put_answer<P: Print>(answer: Result<Score, ScoreRefusal>, trail: &[u32], out: &mut Output<P>) {
+    match answer {
+        Ok(s) => put_held(s, trail, out),
+        Err(refusal) => out.refuse(refusal),
     }
 }
 
