@@ -54,7 +54,7 @@ pub fn put(out: &mut [u8], x: &[u8])
     out[..x.len()].copy_from_slice(x);
 }
 
-// Copies n bytes to a place, and answers the place after them.
+// Copies n bytes to a place, and answers the place after them. By index: the library has no `copy_within`.
 fn copy(slate: &mut [u8], from: usize, n: usize, to: usize) -> usize
     requires { NoneShared from n to n × (from + n ≤ length slate.old) × (to + n ≤ length slate.old) }
     ensures { Wrote slate.old to (take n (drop from slate.old)) result slate.new }
@@ -128,6 +128,16 @@ fn put_sorted(slate: &mut [u8], set: u64, place: usize) -> usize
     next
 }
 
+// Whether the one byte e comes before the string of slot i, or is equal to it.
+#[tactic(auto, using(crate::proofs::Sorting::byte_first, crate::proofs::Sorting::byte_none))]
+fn byte_before(slate: &[u8], e: u8, i: u32) -> bool
+    requires { Slate slate.now × (i < 64) }
+    ensures { result ≡ lex_le (e ∷ []) (slot slate.now i) }
+{
+    let x = string(slate, i as usize);
+    !x.is_empty() && e <= x[0]
+}
+
 // The slots of the set whose strings the one byte e comes before, or is equal to.
 fn after_byte(slate: &[u8], set: u64, e: u8) -> u64
     requires { Slate slate.now }
@@ -138,7 +148,7 @@ fn after_byte(slate: &[u8], set: u64, e: u8) -> u64
     while rest != 0 {
         let i = bitset::lowest(rest);
         rest = bitset::without_lowest(rest);
-        if compare::less_or_equal(&[e], string(slate, i as usize)) {
+        if byte_before(slate, e, i) {
             after = bitset::insert(after, i);
         }
     }

@@ -7,8 +7,8 @@ use Rattle.canonize.proofs.strings.after_byte.Goals as goal
 pub loop-rest-init : goal.loop-rest-init
 loop-rest-init c = record { left = and_self c.args.set; after = rw (passed_none c.args.set) (after_none c.args.e) }
 
-pub loop-rest-preserved-then-less_or_equal : goal.loop-rest-preserved-then-less_or_equal
-loop-rest-preserved-then-less_or_equal c =
+pub loop-rest-preserved-then-byte_before : goal.loop-rest-preserved-then-byte_before
+loop-rest-preserved-then-byte_before c =
     let t = turn c.loop-rest.invariant.left c.lowest-i.ensures c.without_lowest-rest.ensures in
     record { left = t.within; after = rw (t.passed, c.insert-after.ensures) (after_with c.lowest-i.result c.loop-rest.invariant.after (cc)) }
 
