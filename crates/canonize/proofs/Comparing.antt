@@ -1,8 +1,8 @@
 -- Equal strings, and the order of lists of numbers, as the library's comparisons answer them.
-use Rattle.std.proofs.Common.{◌≡◌, ◌↔◌, ◌&&◌, ℕ, Bool, true, false, not, List, [], ◌∷◌, refl, arith, eqb, Some, nat_cmp, is_le, is_gt}
-use Rattle.std.proofs.lemmas.Cmp.{same_from_slice_cmp_tested}
+use Rattle.std.proofs.Common.{◌≡◌, ◌↔◌, ◌&&◌, ℕ, Bool, true, false, not, List, [], ◌∷◌, refl, arith, eqb, Some, nat_cmp, is_le, is_gt, Ordering}
+use Rattle.std.proofs.lemmas.Cmp.{same_from_slice_cmp, same_from_slice_cmp_tested}
 use Rattle.std.proofs.lemmas.Bool.Decides.{nat_tests}
-use Rattle.std.specs.Cmp.Lexicographic.{slice_partial_cmp, pointwise, bytes_decides}
+use Rattle.std.specs.Cmp.Lexicographic.{slice_cmp, slice_partial_cmp, pointwise, bytes_decides}
 use Rattle.std.specs.Ordering.{is_some_and}
 use Rattle.molecule.specs.Lists.{Bytes, pick}
 use Rattle.canonize.specs.Strings.{lex_le, same}
@@ -29,10 +29,10 @@ same_is x y = (same_iff x y).0
 pub same_refl : (x : Bytes) → same x x ≡ true
 same_refl x = (same_iff x x).1 refl
 
--- on slices `x <= y` answers the order, and `x > y` that it does not hold
-pub le_lex : (x y : List ℕ) (r : Bool) → r ≡ is_some_and is_le (slice_partial_cmp (λ a b. Some (nat_cmp a b)) x y) → r ≡ lex_le x y
+-- on slices the order is what `x.cmp(&y).is_le()` answers, and `x > y` answers that it does not hold
+pub cmp_lex : (x y : List ℕ) (r : Ordering) → r ≡ slice_cmp nat_cmp x y → is_le r ≡ lex_le x y
 unfolding lex_le
-le_lex = same_from_slice_cmp_tested nat_cmp is_le lex_le refl (λ b y. refl) (λ a x. refl) (λ a b x y o h. grind (arith, nat_tests))
+cmp_lex = same_from_slice_cmp nat_cmp is_le lex_le refl (λ b y. refl) (λ a x. refl) (λ a b x y o h. grind (arith, nat_tests))
 
 pub gt_lex : (x y : List ℕ) (r : Bool) → r ≡ is_some_and is_gt (slice_partial_cmp (λ a b. Some (nat_cmp a b)) x y) → r ≡ not (lex_le x y)
 unfolding lex_le

@@ -85,6 +85,7 @@ module _ {set : ℕ} {start : Bytes} {place : ℕ} (s : Slots start) (room : Fre
     this : slot now i ≡ slot start i
     this = same i l.member
 
+    -- it is a slot of a bond
     pub partly_small : set < 2 ^ 64 → i < 64
     partly_small h = member_lt 64 set i h (sub_in rest set p.within i l.member)
 
@@ -125,6 +126,7 @@ pub record Gathering (set e t : ℕ) (start : Bytes) (place : ℕ) : Type 0 wher
   pub after : After (slot start) set e t
   pub room : FreeSlot set place (length (gathered (slot start) e set))
 
+-- the same from its parts
 pub gathering : {set e t : ℕ} {start : Bytes} {place : ℕ} → Slots start → FreeSlot set place (length (gathered (slot start) e set)) → After (slot start) set e t
     → Gathering set e t start place
 gathering s r a = record { serves = s; after = a; room = r }

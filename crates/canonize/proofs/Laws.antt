@@ -29,7 +29,7 @@ use Rattle.canonize.proofs.Fragments.{fragment_bonds, fragment_clean}
 use Rattle.canonize.proofs.Carried.{Carried, image, image_carried, pair_carried, touch_goes, carried_sub, carried_apart, carried_iso, carried_connected}
 pub use Rattle.canonize.proofs.Isomorphic.{label_iff}
 pub use Rattle.canonize.proofs.Sorting.{lexle_turn, sort_perm, sort_canonical, perm_of_sort}
-pub use Rattle.canonize.proofs.Comparing.{same_refl, same_is, same_iff, le_lex, gt_lex}
+pub use Rattle.canonize.proofs.Comparing.{same_refl, same_is, same_iff, gt_lex}
 pub use Rattle.canonize.proofs.Answers.{answer_refused, answer_label, record_row, set_row, buffer_row, no_row, good_set}
 
 -- ---- lengths

@@ -41,6 +41,7 @@ pub record Begun (slate : Bytes) (k start : ℕ) (x : Bytes) (end : ℕ) (now : 
   pub short : length x ≤ 389
   pub wrote : Wrote slate start x end now
 
+-- the same from its parts
 pub begun : {slate : Bytes} {k start : ℕ} {x : Bytes} {end : ℕ} {now : Bytes} → Slots slate → k < 66 → start ≡ 391 * k + 2 → length x ≤ 389
     → Wrote slate start x end now → Begun slate k start x end now
 begun s h e l w = record { serves = s; within = h; at = e; short = l; wrote = w }
@@ -103,6 +104,7 @@ pub record Hands (r : Bytes) (s L i v : ℕ) (slate : Bytes) (start b : ℕ) : T
   pub is : b ≡ code r i
   pub fits : length (handed r s L (slot slate) i v) ≤ 389
 
+-- the same from its parts
 pub hands : {r : Bytes} {s L i v : ℕ} {slate : Bytes} {start b : ℕ} → Slots slate → bit L i ≡ 1 → i < 64 → start ≡ 391 * i + 2 → b ≡ code r i
     → length (handed r s L (slot slate) i v) ≤ 389 → Hands r s L i v slate start b
 hands w h l e c f = record { serves = w; left = h; small = l; at = e; is = c; fits = f }
@@ -163,6 +165,7 @@ pub record OuterEnds (r : Bytes) (s L i k : ℕ) (slate : Bytes) (from : ℕ) : 
   pub at : from ≡ 391 * i + 2
   pub fits : length (centres r s L (slot slate) i) ≤ 389
 
+-- the same from its parts
 pub outer_ends : {r : Bytes} {s L i k : ℕ} {slate : Bytes} {from : ℕ} → Slots slate → bit L i ≡ 1 → i < 64 → 64 ≤ k → k < 66 → from ≡ 391 * i + 2
     → length (centres r s L (slot slate) i) ≤ 389 → OuterEnds r s L i k slate from
 outer_ends w h l a b e f = record { serves = w; left = h; small = l; high = a; within = b; at = e; fits = f }

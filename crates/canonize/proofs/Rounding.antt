@@ -27,6 +27,7 @@ pub record Next (rest i next : ℕ) : Type 0 where
   pub member : bit rest i ≡ 1
   pub is : next ≡ diff rest (2 ^ i)
 
+-- as the loop over the bonds takes them, the lowest first
 pub next_of : {rest i next : ℕ} → Lowest rest i → WithoutLowest rest next → Next rest i next
 next_of {rest} l w = record { member = l.member; is = rw l.is w.is }
 

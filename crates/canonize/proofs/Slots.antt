@@ -39,6 +39,7 @@ module _ (slate : Bytes) (s : Slots slate) where
   unfolding slot
   slot_length_lem i h = length-take-le (slot_length slate i) (drop (391 * i + 2) slate) (omega (arith, length-drop (391 * i + 2) slate, s.wide, slot_fits i))
 
+  -- the label that is kept is no longer than a buffer must be
   pub kept_short : length (slot slate 64) ≤ 389
   kept_short = omega (arith, slot_length_lem 64 (omega arith), slot_fits 64)
 

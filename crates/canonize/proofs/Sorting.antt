@@ -1,5 +1,6 @@
 -- Byte strings as lists of numbers: the lexicographic order, insertion sort, and that sorting forgets the order and nothing else.
-use borrow.Author.Tests.{le-ltb, lt-ltb}
+use Rattle.std.proofs.Common.{length, get_or, leb}
+use borrow.Author.Tests.{le-ltb, lt-ltb, le-leb, lt-leb}
 use Rattle.bitset.proofs.Bools.{two}
 use mathlib.Core.Path.{◌≡◌, refl, sym, ap, ap₂, ◌∙◌}
 use mathlib.Core.Bool.{true, false}
@@ -85,6 +86,21 @@ lexle→lex (x ∷ xs) (y ∷ ys) p = go (order3 x y) (lexle→lex xs ys)
     go (below h) r = inl h
     go (above h) r = absurd (not_both p (lexle_above x y xs ys h))
     go (same e) r = inr (e, r (sym (lexle_same x y xs ys e) ∙ p))
+
+-- one byte and a string, empty or not
+pub byte_none : (e : ℕ) (x : List ℕ) → length x ≡ 0 → lex_le (e ∷ []) x ≡ false
+unfolding lex_le
+byte_none e [] h = refl
+byte_none e (b ∷ x) h = absurd (omega arith)
+
+pub byte_first : (e : ℕ) (x : List ℕ) → 0 < length x → lex_le (e ∷ []) x ≡ leb e (get_or x 0 0)
+byte_first e [] h = absurd (omega arith)
+byte_first e (b ∷ x) h = go (order3 e b)
+  where
+    go : Order3 e b → lex_le (e ∷ []) (b ∷ x) ≡ leb e b
+    go (below h) = lexle_below e b [] x h ∙ sym (le-leb e b (omega arith))
+    go (same h) = lexle_same e b [] x h ∙ lex→lexLe [] x tt ∙ sym (le-leb e b (omega arith))
+    go (above h) = lexle_above e b [] x h ∙ sym (lt-leb e b h)
 
 pub lexle_false : (xs ys : List ℕ) → lex_le xs ys ≡ false → Lex ys xs
 lexle_false xs ys p = go (lex_total xs ys)

@@ -127,6 +127,16 @@ fn put_sorted(slate: &mut [u8], set: u64, place: usize) -> usize
     next
 }
 
+// Whether the one byte e comes before the string of slot i, or is equal to it.
+#[tactic(auto, using(crate::proofs::Sorting::byte_first, crate::proofs::Sorting::byte_none))]
+fn byte_before(slate: &[u8], e: u8, i: u32) -> bool
+    requires { Slots slate.now × (i < 64) }
+    ensures { result ≡ lex_le (e ∷ []) (slot slate.now i) }
+{
+    let x = string(slate, i as usize);
+    !x.is_empty() && e <= x[0]
+}
+
 // The slots of the set whose strings the one byte e comes before, or is equal to.
 fn after_byte(slate: &[u8], set: u64, e: u8) -> u64
     requires { Slots slate.now }
@@ -134,7 +144,7 @@ fn after_byte(slate: &[u8], set: u64, e: u8) -> u64
 {
     let mut after = 0;
     for i in bitset::ascending(set) {
-        if compare::less_or_equal(&[e], string(slate, i as usize)) {
+        if byte_before(slate, e, i) {
             after = bitset::insert(after, i);
         }
     }

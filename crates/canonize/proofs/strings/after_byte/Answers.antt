@@ -11,8 +11,8 @@ loop-i-init c =
     let e : c.into_iter-i-iterator.result.rest ≡ c.args.set = ap (λ (i : Iter). i.rest) c.into_iter-i-iterator.ensures.into_iter_gives ∙ c.ascending-i-items.ensures in
     record { left = rw e (and_self c.args.set); after = rw (e, passed_none c.args.set) (after_none c.args.e) }
 
-pub loop-i-preserved-then-less_or_equal : goal.loop-i-preserved-then-less_or_equal
-loop-i-preserved-then-less_or_equal c =
+pub loop-i-preserved-then-byte_before : goal.loop-i-preserved-then-byte_before
+loop-i-preserved-then-byte_before c =
     let t = turn c.loop-i.invariant.left c.in-Some.ensures.steps.2 c.in-Some.ensures.steps.3 in
     record { left = t.within; after = rw (t.passed, c.insert-after.ensures) (after_with c.in-Some.i c.loop-i.invariant.after (cc)) }
 
