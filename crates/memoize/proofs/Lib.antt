@@ -1,6 +1,5 @@
 -- The theory of the memo table.
 pub mod Keys
-pub mod Lists
 pub mod Filling
 pub mod Entries
 pub mod Standing

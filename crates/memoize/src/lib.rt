@@ -87,13 +87,7 @@ fn bucket(total: u64, room: usize) -> usize
 }
 
 // Whether entry e has the key of the new entry.
-fn is_key(
-    molecule: &Molecule,
-    memo: &[u64],
-    e: usize,
-    new: &[u64],
-    slate: &mut Slate,
-) -> bool
+fn is_key(molecule: &Molecule, memo: &[u64], e: usize, new: &[u64], slate: &mut Slate) -> bool
     requires { ((x : Entry) × EntryWords molecule.now.bytes.now memo.now (80 * e) x)
         × ((y : Entry) × EntryWords molecule.now.bytes.now new.now 0 y) }
     ensures { (x y : Entry) → EntryWords molecule.now.bytes.now memo.now (80 * e) x

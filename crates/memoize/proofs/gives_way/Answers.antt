@@ -2,7 +2,7 @@
 use Rattle.std.proofs.Common.{◌≡◌, ◌+◌, ◌-◌, ◌*◌, not, get_or, take, drop, zero-add, arith, le-ltb}
 use Rattle.canonize.specs.Strings.{lex_le}
 use Rattle.memoize.specs.Inner.Stored.{removals_at}
-use Rattle.memoize.proofs.Lists.{gt_lex}
+use Rattle.canonize.proofs.Laws.{gt_lex}
 use Rattle.memoize.proofs.gives_way.Goals as goal
 
 pub returns : goal.returns
