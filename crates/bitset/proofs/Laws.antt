@@ -3,21 +3,19 @@ use mathlib.Core.Path.{◌≡◌, refl, sym, ap, ◌∙◌}
 use mathlib.Core.Logic.{◌⊎◌, inl, inr, ◌≢◌, ⊎_elim}
 use mathlib.Core.List.Memᴰ
 use mathlib.Core.List.{List, [], ◌∷◌, Memᴰ}
-use Prim.Native.Nat.{ℕ, zero, suc, ◌+◌, ◌-◌, ◌*◌, ◌/◌, ◌%◌, ◌^◌, ◌≤◌, ◌<◌, min, max}
-use native.Mathlib.Nat.{pow-suc, div-one, not-suc-le-zero, le_refl, add-zero, zero-sub, suc-add, add-suc, sub_self, sub-zero, one-mul, zero-add, lt_of_not-le, div-eq_of_lt, lt_of_lt_of_le}
+use Prim.Native.Nat.{ℕ, zero, suc, ◌+◌, ◌-◌, ◌/◌, ◌%◌, ◌^◌, ◌≤◌, ◌<◌, min, max}
+use native.Mathlib.Nat.{pow-suc, div-one, not-suc-le-zero, le_refl, add-zero, zero-sub, suc-add, add-suc, sub_self, sub-zero, zero-add, lt_of_not-le, div-eq_of_lt, lt_of_lt_of_le}
 use native.Mathlib.Numerals.{one-add}
 use native.Mathlib.Omega.{arith}
 use native.Mathlib.Decide.{le_ind, ℕ_discrete}
 use lib.Arith.{bin_ind, half_le}
-use lib.Pow.{shr-shr, pow_pos, pow-lt, pow_mono, shl_exact}
-use lib.Bits.{bit_and, bit_or, bit_xor, and_step, or_step, and_shr, or_shr, xor_shr, xor_add_and, and_le_l, and_comm, and_zero_r, and_self, or_lt}
-use mathlib.Core.Bool.{not}
-use borrow.Author.Tests.{ne_eqb}
-use lib.Dec.{lit<, eqb}
+use lib.Pow.{shr-shr, pow_pos, pow-lt, pow_mono}
+use lib.Bits.{bit_and, bit_or, bit_xor, and_step, or_step, and_shr, or_shr, xor_shr, xor_add_and, and_le_l, and_comm, and_zero_r, and_self}
+use lib.Dec.{lit<}
 use lib.Count.{ones, ones_step, ones-ones, ones-le, count_trailing_zeros, under}
 use lib.ListN.{length}
 use Rattle.std.specs.Prelude.{Some}
-use Rattle.bitset.specs.Bits.{bit, has, Sub, Disjoint, diff, size_in, size, front, members_in, members_from, members, low, unions, Ascending, Lowest, WithoutLowest, NextMember}
+use Rattle.bitset.specs.Bits.{bit, Sub, Disjoint, diff, size_in, size, front, members_in, members_from, members, low, unions, Ascending, Lowest, WithoutLowest, NextMember}
 
 -- ---- a digit: the lowest, and the next
 
@@ -103,17 +101,8 @@ pub ruleset digits = (bit-and, bit-or, bit-xor, bit_diff, bit_empty)
 pub or_assoc : (a b c : ℕ) → bit_or (bit_or a b) c ≡ bit_or a (bit_or b c)
 or_assoc a b c = same (λ i. simp digits (omega arith))
 
-pub and_assoc : (a b c : ℕ) → bit_and (bit_and a b) c ≡ bit_and a (bit_and b c)
-and_assoc a b c = same (λ i. simp digits (omega arith))
-
-pub and_or : (a b c : ℕ) → bit_and a (bit_or b c) ≡ bit_or (bit_and a b) (bit_and a c)
-and_or a b c = same (λ i. simp digits (omega arith))
-
 pub diff_diff : (a b c : ℕ) → diff (diff a b) c ≡ diff a (bit_or b c)
 diff_diff a b c = same (λ i. simp digits (omega (arith, bit_le a i)))
-
-pub diff_or : (a b c : ℕ) → diff (bit_or a b) c ≡ bit_or (diff a c) (diff b c)
-diff_or a b c = same (λ i. simp digits (omega arith))
 
 -- ---- how many
 
@@ -225,18 +214,6 @@ pub one_sub : (s i : ℕ) → bit s i ≡ 1 → Sub (2 ^ i) s
 one_sub s i h =
     bit_sub (suc i) (2 ^ i) s (pow-lt (le_refl (suc i)))
     (λ j hj. ⊎_elim (λ w. let e : bit s j ≡ 1 = rw w.0 h in omega arith) (λ w. omega arith) (one_cases i j))
-
--- `s & (1 << i) != 0`
-pub and_one_test : (s i : ℕ) → not (eqb (bit_and s (2 ^ i)) 0) ≡ has s i
-and_one_test s i = go (bit s i) refl
-  where
-    go : (d : ℕ) → bit s i ≡ d → not (eqb (bit_and s (2 ^ i)) 0) ≡ eqb (bit s i) 1
-    go zero e =
-        let z : bit_and s (2 ^ i) ≡ 0 = same (λ j. ⊎_elim (λ w. omega (arith, bit-and s (2 ^ i) j, bit_empty j, ap (bit s) w.0, e)) (λ w. omega (arith, bit-and s (2 ^ i) j, bit_empty j, w.1)) (one_cases i j)) in
-        rw (z, e)
-    go (suc d) e =
-        let o : bit s i ≡ 1 = omega (arith, bit_le s i) in
-        rw (and_comm s (2 ^ i) ∙ one_sub s i o, o, ne_eqb (2 ^ i) 0 (omega (arith, pow_pos i)))
 
 pub size_remove : (s i : ℕ) → bit s i ≡ 1 → size (diff s (2 ^ i)) + 1 ≡ size s
 size_remove s i h = omega (arith, size_minus s (2 ^ i) (one_sub s i h), size_one i)
@@ -378,11 +355,6 @@ unions_of f (i ∷ l) j h = go (bit (f i) j) refl (λ e. unions_of f l j (omega 
     go zero e r = let w = r e in (w.0, Memᴰ.tail w.1, w.2)
     go (suc d) e r = (i, Memᴰ.head refl, omega (arith, bit_le (f i) j))
 
-pub unions_lt : (k : ℕ) (f : ℕ → ℕ) (l : List ℕ) → ((i : ℕ) → f i < 2 ^ k) → unions f l < 2 ^ k
-unfolding unions
-unions_lt k f [] h = pow_pos k
-unions_lt k f (i ∷ l) h = or_lt k (f i) (unions f l) (h i) (unions_lt k f l h)
-
 -- over a set, by digits: a member of the union is in f i for a member i
 pub union_one : (f : ℕ → ℕ) (s i j : ℕ) → bit s i ≡ 1 → bit (f i) j ≡ 1 → bit (unions f (members s)) j ≡ 1
 union_one f s i j hs h = unions_one f (members s) i j (Memᴰ.cast (sym (zero-add i)) (bit_mem i 0 s hs)) h
@@ -390,10 +362,7 @@ union_one f s i j hs h = unions_one f (members s) i j (Memᴰ.cast (sym (zero-ad
 pub union_of : (f : ℕ → ℕ) (s j : ℕ) → bit (unions f (members s)) j ≡ 1 → (i : ℕ) × (bit s i ≡ 1) × (bit (f i) j ≡ 1)
 union_of f s j h = let w = unions_of f (members s) j h in (w.0, rw sub-zero at (mem_bit s 0 w.0 w.1).1, w.2)
 
--- ---- what the machine computes: `1 << i`, `s & !t`, `s & (s - 1)`, and a word with its n low digits set
-
-pub shl_one : (i : ℕ) → i < 64 → (1 * 2 ^ i) % 2 ^ 64 ≡ 2 ^ i
-shl_one i h = shl_exact 1 i 64 (lit< tt) (omega arith) ∙ one-mul (2 ^ i)
+-- ---- what the machine computes: `s & !t`, `s & (s - 1)`, and a word with its n low digits set
 
 and_not_step : (s t n : ℕ) → n % 2 ≡ 1 - t % 2 → bit_and (s / 2) (n / 2) + bit_and (s / 2) (t / 2) ≡ s / 2 → bit_and s n + bit_and s t ≡ s
 and_not_step s t n e ih = rw (and_step s n, and_step s t) (omega arith)
@@ -437,12 +406,7 @@ bit_past k s i hs h = rw (div-eq_of_lt (lt_of_lt_of_le hs (pow_mono h)))
 pub member_lt : (k s i : ℕ) → s < 2 ^ k → bit s i ≡ 1 → i < k
 member_lt k s i hs e = lt_of_not-le (λ l. let z = bit_past k s i hs l in omega arith)
 
--- a union over the members of a set, by its least member
-pub unions_low : (f : ℕ → ℕ) (s : ℕ) → 0 < s → s < 2 ^ 64 → unions f (members s) ≡ bit_or (f (low s)) (unions f (members (diff s (2 ^ low s))))
-unfolding unions
-unions_low f s p h = rw (members_low 64 0 s p h, zero-add (low s))
-
--- ---- a loop over a set: `while rest != 0 { let i = lowest(rest); a = g(a, i); rest = without_lowest(rest); }`
+-- ---- a loop over a set: `for i in ascending(s)`
 
 -- what the loop meets next, and then: any function of the members takes a turn by `ap` of this
 pub members_turn : (s i t : ℕ) → 0 < s → s < 2 ^ 64 → Lowest s i → WithoutLowest s t → members s ≡ i ∷ members t
@@ -451,9 +415,6 @@ members_turn s i t p h l w = rw (members_low 64 0 s p h, zero-add (low s), l.is,
 -- the members by the iterator over them: its next, and then the others
 pub next_members : (s i t : ℕ) → NextMember s (Some i) t → members s ≡ i ∷ members t
 next_members s i t n = members_turn s i t n.0 n.1 n.2 n.3
-
-pub members_first : (s i : ℕ) → 0 < s → s < 2 ^ 64 → Lowest s i → members s ≡ i ∷ members (bit_and s (s - 1))
-members_first s i p h l = members_turn s i (bit_and s (s - 1)) p h l (without_lowest_lem s p h)
 
 pub members_done : (s : ℕ) → s ≡ 0 → members s ≡ []
 unfolding members_from

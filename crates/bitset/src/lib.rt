@@ -57,6 +57,7 @@ pub fn is_disjoint(s: u64, t: u64) -> bool
     s & t == 0
 }
 
+// size and lowest are one call of the library each: alike in form, and no common function would be plainer.
 pub fn size(s: u64) -> u32
     ensures { result ≡ size s }
 {

@@ -243,13 +243,6 @@ split_of (a ∷ l) s o d e =
           (rw (← f) (sets (apart (v 0) (v 1) ∷ []) (is (v 1) (less (or (v 0) (v 1)) (v 0))) (a ∷ whole l ∷ []) tt (apart_whole a l d.0))),
     )
 
--- and parts of s have the union s
-pub split_whole : (l : List ℕ) (s : ℕ) → Split s l → whole l ≡ s
-split_whole [] s h = unions_none (λ p. p) ∙ sym h
-split_whole (a ∷ l) s h =
-    unions_more (λ p. p) a l
-    ∙ rw (split_whole l (diff s a) h.2) (sets (sub (v 0) (v 1) ∷ []) (is (or (v 0) (less (v 1) (v 0))) (v 1)) (a ∷ s ∷ []) tt h.1)
-
 -- ---- what is saved is never more than the pieces' sizes less one each
 
 -- the parts of p have size less one, summed, at most that of p: each part but one takes one more off

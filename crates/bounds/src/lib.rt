@@ -1,6 +1,9 @@
 #![tactic(auto)]
 // The two bounds of the search (src/bounds.rs): J of Int (`int_bound`), and the least size that is tried (`least_size`).
 // The contracts are by the definitions of specs/Bounds.antt, and proofs/Bounds.antt has that both are bounds.
+// The pieces, the index and the largest size are parameters: the state that has them is of a crate above, and a list of capacity 32 would ask more of
+// callers. A size stays a number, and its limits a clause. Masks are lent and only read.
+// Numbers turn by `as`, shown to lose nothing: usize has no From, and a TryFrom would answer an error that never is.
 ghost use Rattle.std.specs.Prelude.{◌≡◌, ℕ, ◌^◌, ◌≤◌, ◌<◌, length, get_or};
 ghost use Rattle.std.specs.Int.{div_ceil};
 ghost use Rattle.std.specs.List.{sum_by};
@@ -82,6 +85,7 @@ pub fn usable_edges_bound(w: u64, f: u64, pieces: &[u64], k: u32) -> u32
 }
 
 // The first size from 2 to largest that is not left out, and the next after these where all are: masks[k] has the bonds in removable size-k matches.
+// A number and no Option: it is the definition's own, and the search tries from it on.
 pub fn least_size(masks: &[u64], pieces: &[u64], index: u32, best: u32, largest: u32) -> u32
     requires { (largest < length masks.now) × (length pieces.now ≤ 32) × (best ≤ 4096) × (largest ≤ 64) × ((k : ℕ) → 2 ≤ k → k ≤ largest
         → Sub (get_or masks.now k 0) (get_or masks.now 2 0)) }

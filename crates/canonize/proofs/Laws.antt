@@ -1,8 +1,8 @@
 -- The laws of labels that other crates cite: lengths, isomorphism, parts carried along, the order of byte strings, sorting, equality and hashes of them, and
 -- label's answer row by row. Assumes nothing.
-use mathlib.Core.Path.{◌≡◌, refl, sym, ◌∙◌}
+use mathlib.Core.Path.{◌≡◌, sym, ◌∙◌}
 use mathlib.Core.Logic.{◌⊎◌, inl, inr, ⊎_elim}
-use mathlib.Core.Bool.{true, false}
+use mathlib.Core.Bool.{true}
 use mathlib.Core.List.{[], ◌∷◌}
 use Prim.Native.Nat.{ℕ, ◌+◌, ◌*◌, ◌%◌, ◌^◌, ◌≤◌, ◌<◌}
 use native.Mathlib.Nat.{mod-lt}
@@ -21,7 +21,7 @@ use Rattle.molecule.proofs.Components.{own_sub, pair_connected}
 use Rattle.canonize.specs.Strings.{lex_le, hash, hash_from}
 use Rattle.canonize.specs.Label.{fragment, label}
 use Rattle.canonize.specs.Isomorphism.{Isomorphism}
-use Rattle.canonize.proofs.Sorting.{lex_refl, lex_trans, lex_antisym, lex_total, lex→lexLe, lexle→lex, lexle_below, lexle_above, lexle_same}
+use Rattle.canonize.proofs.Sorting.{lex_refl, lex_trans, lex_antisym, lex_total, lex→lexLe, lexle→lex}
 use Rattle.canonize.proofs.OnStrings.{label_document}
 use Rattle.canonize.proofs.Facts.{label_length as tree_length, label_size as tree_size}
 use Rattle.canonize.proofs.OfRecords.{label_fits as tree_fits}
@@ -120,25 +120,6 @@ le_antisym x y p q = lex_antisym x y (lexle→lex x y p) (lexle→lex y x q)
 
 pub le_total : (x y : Bytes) → (lex_le x y ≡ true) ⊎ (lex_le y x ≡ true)
 le_total x y = ⊎_elim (λ l. inl (lex→lexLe x y l)) (λ l. inr (lex→lexLe y x l)) (lex_total x y)
-
--- ---- the order, an element at a time
-
-pub lex_nil : (y : Bytes) → lex_le [] y ≡ true
-unfolding lex_le
-lex_nil y = refl
-
-pub lex_ends : (a : ℕ) (x : Bytes) → lex_le (a ∷ x) [] ≡ false
-unfolding lex_le
-lex_ends a x = refl
-
-pub lex_head_less : (a b : ℕ) (x y : Bytes) → a < b → lex_le (a ∷ x) (b ∷ y) ≡ true
-lex_head_less = lexle_below
-
-pub lex_head_more : (a b : ℕ) (x y : Bytes) → b < a → lex_le (a ∷ x) (b ∷ y) ≡ false
-lex_head_more = lexle_above
-
-pub lex_head_same : (a b : ℕ) (x y : Bytes) → a ≡ b → lex_le (a ∷ x) (b ∷ y) ≡ lex_le x y
-lex_head_same = lexle_same
 
 -- ---- the hash of a string is small
 

@@ -1,13 +1,12 @@
 -- A buffer with a string written at a place: its length, what is read back, what stays as it was, and one string after another. Assumes nothing.
-use mathlib.Core.Path.{◌≡◌, refl, sym, ap, ap₂, ◌∙◌}
+use mathlib.Core.Path.{◌≡◌, refl, sym, ap, ◌∙◌}
 use mathlib.Core.Logic.{◌⊎◌, inl, inr, ⊎_elim}
 use mathlib.Core.List.{[], ◌∷◌, ◌++◌, append_assoc}
 use Prim.Native.Nat.{ℕ, suc, ◌+◌, ◌-◌, ◌≤◌, ◌<◌}
 use native.Mathlib.Nat.{le_refl, add-zero}
-use native.Mathlib.Numerals.{add-one}
 use native.Mathlib.Omega.{arith}
 use lib.ListN.{length, get_or, take, drop, set, length-append, length-drop, length-set}
-use lib.Seq.{length-take-le, take-length, append_snoc, take-append_seam, take-append-le, set_split, get_or-take, get_or-drop, take-take, drop-drop, take-add, take_at, drop_at, paste, paste-zero, paste-suc, length-paste}
+use lib.Seq.{length-take-le, take-length, append_snoc, take-append_seam, take-append-le, set_split, get_or-take, get_or-drop, take-take, drop-drop, take-add, take_at, drop_at, paste, paste-zero, length-paste}
 use Rattle.molecule.specs.Lists.{Bytes}
 use Rattle.canonize.specs.Strings.{wrap}
 use Rattle.canonize.specs.Inner.Places.{written, Wrote, NoneShared}
@@ -93,28 +92,6 @@ module _ (out : Bytes) (k : ℕ) (x : Bytes) (fits : k + length x ≤ length out
 pub part_length : (out : Bytes) (from n : ℕ) → from + n ≤ length out → length (take n (drop from out)) ≡ n
 part_length out from n h = length-take-le n (drop from out) (omega (arith, length-drop from out))
 
-module _ (out : Bytes) (from n to : ℕ) (apart : NoneShared from n to n) (fits : from + n ≤ length out) (room : to + n ≤ length out) where
-  part : Bytes
-  part = take n (drop from out)
-
-  -- a turn of a loop that copies: what is read has not been written over
-  pub copied_next : (j : ℕ) (now : Bytes) → j < n → now ≡ paste out to (take n (drop from out)) j
-      → set now (to + j) (get_or now (from + j) 0) ≡ paste out to (take n (drop from out)) (j + 1)
-  unfolding part written
-  copied_next j now h e =
-      let l : length part ≡ n = part_length out from n fits in
-      let k : length (take j part) ≡ j = length-take-le j part (omega (arith, l)) in
-      let q : now ≡ written out to (take j part) = e ∙ sym (ap (λ (m : ℕ). take to out ++ take j part ++ drop (to + m) out) k) in
-      let side : (from + j < to) ⊎ (to + length (take j part) ≤ from + j) = ⊎_elim (λ (g : from + n ≤ to). inl (omega arith))
-      (λ (g : to + n ≤ from). inr (omega arith)) apart in
-      let a : get_or now (from + j) 0 ≡ get_or part j 0 =
-      ap (λ (l : Bytes). get_or l (from + j) 0) q
-      ∙ written_at out to (take j part) (omega arith) (from + j) side
-      ∙ sym (get_or-take n (drop from out) j 0 h ∙ get_or-drop from out j 0) in
-      ap₂ (λ (l : Bytes) (b : ℕ). set l (to + j) b) e a
-      ∙ paste-suc out to part j 0 (omega arith) (omega (arith, l))
-      ∙ ap (paste out to part) (sym (add-one j))
-
 -- ---- the same of `Wrote`
 
 pub wrote_nil : (out : Bytes) (k : ℕ) → Wrote out k [] k out
@@ -162,6 +139,15 @@ wrote_read_then {out} {k} {x} {next} {now} {y} v w h =
     ap (λ (l : Bytes). take (next - k) (drop k l)) w.is
     ∙ written_part now next y (omega (arith, v.place, wrote_length v (omega arith))) k (next - k) (inl (omega (arith, v.place)))
     ∙ wrote_read v (omega arith)
+
+-- what `copy_within` comes to
+pub copied : (out : Bytes) (from n to : ℕ) {now : Bytes} → from + n ≤ length out → now ≡ paste out to (drop from out) ((from + n) - from)
+    → Wrote out to (take n (drop from out)) (to + n) now
+unfolding written
+copied out from n to h e =
+    let m : (from + n) - from ≡ n = omega arith in
+    let k : length (take n (drop from out)) ≡ n = part_length out from n h in
+    record { place = omega arith; is = e ∙ rw (m, k) refl }
 
 -- ---- bytes from another place, wrapped: a 0 is put, they are copied, and 255 is put
 

@@ -10,7 +10,7 @@ pub fn less_or_equal(x: &[u8], y: &[u8]) -> bool
     x.cmp(&y).is_le()
 }
 
-// x and y are equal.
+// x and y are equal. This and less_or_equal are a library's call each, under the names that the definitions have.
 #[tactic(auto, using(crate::proofs::Comparing::same_pointwise))]
 pub fn equal(x: &[u8], y: &[u8]) -> bool
     ensures { result ≡ same x.now y.now }

@@ -1,5 +1,6 @@
 #![tactic(auto)]
 // Labels of fragments: two fragments have equal labels exactly when an element- and bond-keeping isomorphism joins them.
+// Numbers turn by `as`, shown to lose nothing: usize has no From, and a TryFrom would answer an error that never is.
 ghost use Rattle.std.specs.Prelude.{◌≡◌, not, ◌≤◌, length};
 ghost use Rattle.canonize.specs.Label.{label};
 ghost use Rattle.canonize.specs.Inner.Slate.{Fragment};
@@ -23,6 +24,7 @@ pub enum LabelRefusal {
     Buffer,
 }
 
+// By hand: the From that the kit's `thiserror` derives has no contract.
 impl From<Fault> for LabelRefusal {
     ghost use Rattle.canonize.specs.declared.LabelRefusal.TheVariants.{Record};
 

@@ -1,6 +1,6 @@
 // Peeling a fragment by words: the set of the bonds left, and in a slot of its own the string that each bond taken off handed over.
-// The slate is lent as its bytes (strings.rt says why). A molecule, a set s and what is left of it stay three arguments: a struct of them would
-// hold the reference, and each clause would name the record through it, as self.now.molecule.now.bytes.now.
+// The slate is lent as its bytes (strings.rt says why). A molecule, a set s and what is left of it stay three arguments: what is
+// left is another at each turn. Bonds and atoms stay numbers, with a clause for their range: they come out of sets and ends at each turn.
 ghost use Rattle.std.specs.Prelude.{◌≡◌, true, false, MatchOption, [], ◌∷◌, ◌+◌, ◌-◌, ◌^◌, ◌≤◌, ◌<◌, length, take, drop};
 ghost use Rattle.bitset.specs.Bits.{bit};
 ghost use Rattle.molecule.specs.Record.{atoms, bonds};

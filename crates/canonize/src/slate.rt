@@ -1,4 +1,6 @@
 // A slate, on which labels of fragments are written: one is kept, and others are compared with it.
+// A fragment stays a u64: sets come out of lent words, and a struct for one would be made and opened at each call.
+// A slot stays a number: those of bonds come out of a set, and 64 and 65 are two more in the same bytes, the label kept and the one compared with it.
 ghost use Rattle.std.specs.Prelude.{◌≡◌, not, ◌≤◌, ◌<◌, length};
 ghost use Rattle.canonize.specs.Strings.{lex_le, same, hash};
 ghost use Rattle.canonize.specs.Label.{label};
@@ -9,7 +11,8 @@ use crate::{compare, peel, strings};
 use molecule::Molecule;
 use std::marker::Model;
 
-// A slate, seen as the label that it keeps: 66 slots of 391 bytes. The struct is made once and lent, and never copied.
+// A slate, seen as the label that it keeps: 66 slots of 391 bytes. The struct is made once and lent, and never copied. The slots are one array, and no
+// array of arrays: a string goes from slot to slot by copy_within, which works inside one slice.
 #[derive(Drop)]
 pub struct Slate {
     bytes: [u8; 25806],
@@ -87,7 +90,6 @@ impl Slate {
     }
 
     // The label that is kept.
-    #[tactic(auto, using(crate::proofs::Slots::kept_short), unfolding(crate::specs::Inner::Slate::kept))]
     pub fn label(&self) -> &[u8]
         ensures { (result.now ≡ self.now) × (length result.now ≤ 389) }
     {

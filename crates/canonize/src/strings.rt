@@ -1,5 +1,6 @@
 // Strings in slots of the slate: their lengths, their order, and collapsing them.
 // They take the slate's bytes and not a Slate: their contracts say which bytes are written at which place, and a Slate is seen as its kept label alone.
+// A place goes beside the bytes, and the next place is the answer: a struct that holds lent bytes owes in each contract a clause that it is the same loan.
 ghost use Rattle.std.specs.Prelude.{◌≡◌, [], ◌∷◌, map, ◌+◌, ◌*◌, ◌≤◌, ◌<◌, length, take, drop};
 ghost use Rattle.bitset.specs.Bits.{members};
 ghost use Rattle.canonize.specs.Strings.{lex_le, wrap, sort, join, collapse};
@@ -16,7 +17,7 @@ pub fn start(i: usize) -> usize
     391 * i + 2
 }
 
-// How long the string of slot i is.
+// How long the string of slot i is. By * and +: from_le_bytes would want the two bytes in an array first, and answers a u16.
 #[tactic(auto, unfolding(crate::specs::Inner::Slate::slot_length))]
 pub fn slot_length(slate: &[u8], i: usize) -> usize
     requires { Slots slate.now × (i < 66) }
@@ -37,7 +38,7 @@ pub fn string(slate: &[u8], i: usize) -> &[u8]
     &slate[from..from + slot_length(slate, i)]
 }
 
-// The n bytes that stand in slot i become its string.
+// The n bytes that stand in slot i become its string. By % and /: to_le_bytes would want n as a u16 first, and a slice of two bytes to copy into.
 pub fn set_length(slate: &mut [u8], i: usize, n: usize)
     requires { Slots slate.old × (i < 66) × (n ≤ 389) }
     ensures { SlotIs slate.old i (take n (drop (391 * i + 2) slate.old)) slate.new }
@@ -46,7 +47,7 @@ pub fn set_length(slate: &mut [u8], i: usize, n: usize)
     slate[391 * i + 1] = (n / 256) as u8;
 }
 
-// Puts x at the front of out.
+// Puts x at the front of out. One call of the library, by a name that the laws of strings at places speak of.
 #[tactic(auto, unfolding(crate::specs::Inner::Places::written))]
 pub fn put(out: &mut [u8], x: &[u8])
     requires { length x.now ≤ length out.old }
@@ -55,24 +56,14 @@ pub fn put(out: &mut [u8], x: &[u8])
     out[..x.len()].copy_from_slice(x);
 }
 
-// Copies n bytes to a place, and answers the place after them.
-fn copy(slate: &mut [u8], from: usize, n: usize, to: usize) -> usize
-    requires { NoneShared from n to n × (from + n ≤ length slate.old) × (to + n ≤ length slate.old) }
-    ensures { Wrote slate.old to (take n (drop from slate.old)) result slate.new }
-{
-    for j in 0..n {
-        slate[to + j] = slate[from + j];
-    }
-    to + n
-}
-
 // Puts n bytes, wrapped.
 pub fn put_wrapped(slate: &mut [u8], from: usize, n: usize, place: usize) -> usize
     requires { NoneShared from n place (n + 2) × (from + n ≤ length slate.old) × (place + (n + 2) ≤ length slate.old) }
     ensures { Wrote slate.old place (wrap (take n (drop from slate.old))) result slate.new }
 {
+    let end = place + 1 + n;
     slate[place] = 0;
-    let end = copy(slate, from, n, place + 1);
+    slate.copy_within(from..from + n, place + 1);
     slate[end] = 255;
     end + 1
 }

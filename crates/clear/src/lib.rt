@@ -3,7 +3,7 @@
 ghost use Rattle.std.specs.Prelude.{◌≡◌, ◌≤◌, length, replicate};
 ghost use Rattle.clear.specs.Inner.Part.{zero_part};
 
-// Every word becomes 0.
+// Every word becomes 0. One call of the library, by a name: that lent words end with zeros is said once.
 pub fn zero(words: &mut [u64])
     ensures { words.new ≡ replicate (length words.old) 0 }
 {

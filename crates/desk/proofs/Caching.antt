@@ -5,6 +5,7 @@ use Rattle.std.proofs.lemmas.Grind.{common_steps}
 use Rattle.molecule.specs.Lists.{Bytes}
 use Rattle.canonize.specs.Strings.{hash}
 use Rattle.canonize.specs.Label.{label}
+use Rattle.canonize.specs.Inner.Slate.{Fragment}
 use Rattle.desk.specs.Inner.Cached.{Stands, Cached}
 
 -- a desk of zeros says nothing
@@ -38,3 +39,18 @@ module _ {r : Bytes} {desk : List ℕ} (k : Cached r desk) (i : ℕ) (h : i < 10
     stands = λ j g n. stands_of j g n (ℕ_discrete j i);
     kept = λ j g n. grind (arith, common_steps, k.kept j g);
   }
+
+-- a fragment y is put as the set that the desk has for a hash
+pub cached_kept : {r : Bytes} {desk : List ℕ} (k : Cached r desk) (i : ℕ) (h : i < 1024) (y : ℕ) (f : Fragment r y) → Cached r (set desk (3072 + i) y)
+cached_kept {r} {desk} k i h y f = record {
+  wide = grind (arith, common_steps, k.wide);
+  hashes = λ j g n. grind (arith, common_steps, k.hashes j g);
+  stands = λ j g n. grind (arith, common_steps, k.stands j g);
+  kept = λ j g n. kept_of j g n (ℕ_discrete j i);
+}
+  where
+    kept_of : (j : ℕ) → j < 1024 → get_or (set desk (3072 + i) y) (3072 + j) 0 ≢ 0 → Dec (j ≡ i) → Fragment r (get_or (set desk (3072 + i) y) (3072 + j) 0)
+    kept_of j g n (yes d) = let a : get_or (set desk (3072 + i) y) (3072 + i) 0 ≡ y = grind (arith, common_steps, k.wide) in rw (d, a) f
+    kept_of j g n (no d) =
+        let a : get_or (set desk (3072 + i) y) (3072 + j) 0 ≡ get_or desk (3072 + j) 0 = grind (arith, common_steps) in
+        rw a (k.kept j g (λ z. n (a ∙ z)))

@@ -1,5 +1,6 @@
 #![tactic(auto)]
 // The desk: for a set of bonds the hash of its label and a set that stands for it, kept in lent words so that labels are not computed again.
+// Numbers turn by `as`, shown to lose nothing: usize has no From, and a TryFrom would answer an error that never is.
 ghost use Rattle.std.specs.Prelude.{◌≡◌, ◌<◌};
 ghost use Rattle.canonize.specs.Label.{label};
 ghost use Rattle.canonize.specs.Strings.{same, hash};
@@ -9,6 +10,9 @@ ghost use Rattle.desk.specs.Inner.Cached.{Stands, Cached};
 use canonize::Slate;
 use molecule::Molecule;
 
+// The desk is words that C lends, 0 for none, and goes as a slice beside the slate: a struct that holds lent words owes in each contract a clause that
+// it is the same loan. A set stays a word, as slate.rt of `canonize` says.
+
 // The hash of a set's label, and a set that stands for it.
 #[derive(Clone, Copy, Debug, PartialEq, Eq)]
 pub struct Known {
@@ -16,7 +20,8 @@ pub struct Known {
     pub set: u64,
 }
 
-// The slot of x: modulo a prime that spreads the sets of a chain.
+// The slot of x: modulo a prime that spreads the sets of a chain. A twin of `place` in form alone: here a prime for sets, there how many words are for
+// hashes.
 fn slot(x: u64) -> usize
     ensures { result < 1024 }
 {

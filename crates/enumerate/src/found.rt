@@ -1,5 +1,7 @@
 // The candidates of one size, in order found, each once. Regions of p words: 0 the nodes, 1 the candidates, 2 for each candidate 1 more than the
-// index of the one before it in its bucket, 3 for each bucket 1 more than that of its last, 0 for none.
+// index of the one before it in its bucket, 3 for each bucket 1 more than that of its last, 0 for none. The table is words that C lends: a link in it is
+// a number. parts and p stay two parameters: a struct that holds the lent words owes in each contract a clause that it is the same loan.
+// touch stays words: a Molecule would ask more of callers, since what is promised holds of any words.
 ghost use Rattle.std.specs.Prelude.{◌≡◌, List, [], ℕ, ◌*◌, ◌≤◌, ◌<◌, length, get_or, eqb};
 ghost use Rattle.std.proofs.Math.Seq.{slice};
 ghost use Rattle.molecule.specs.Lists.{any};
@@ -21,7 +23,7 @@ fn known(parts: &[u64], p: usize, x: u64) -> bool
     ensures { (l : List ℕ) → Bucketed parts.now p l → result ≡ any (eqb x) l }
 {
     let mut k = parts[3 * p + bucket(x, p)];
-    // A while: it follows the chain of the bucket.
+    // A while: it follows the chain of the bucket, and an iterator for it would state the chain a second time, for this one loop.
     while k != 0 {
         let i = (k - 1) as usize;
         if parts[p + i] == x {

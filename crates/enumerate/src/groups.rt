@@ -1,6 +1,8 @@
 // The candidates grouped by label, groups ascending, members in order found. Regions of p words: 4 for each group the index of its first member, 5 for each
 // candidate 1 more than the index of the next member of its group, 0 for none, 6 for each first member the index of its group's last member,
 // 9 to 11 hints: at the place of a label 1 more than the index of the first member of a group that may have that label, 0 for none.
+// Links are numbers, and parts and p two parameters, as found.rt says. The molecule and the slate stay two parameters: a struct that holds both holds
+// the slate's loan, and owes in each contract a clause that it is the same one.
 ghost use Rattle.std.specs.Prelude.{◌≡◌, IfSome, List, ℕ, ◌+◌, ◌*◌, ◌≤◌, ◌<◌, length, get_or};
 ghost use Rattle.matches.specs.Table.{Group, groups};
 ghost use Rattle.enumerate.specs.Inner.Grouped.{Grouped, Groupable, Around, Outside, key_at, Firsts, Position, GroupOpened, joined};
@@ -9,7 +11,8 @@ ghost use Rattle.enumerate.specs.Inner.Grouped.{Hints, Hinted, HintLeads, Moved,
 use canonize::Slate;
 use molecule::Molecule;
 
-// The first of the g groups whose label does not come before the one that is kept, g where there is none.
+// The first of the g groups whose label does not come before the one that is kept, g where there is none: where a new group goes, as partition_point
+// answers.
 fn position(molecule: &Molecule, parts: &[u64], p: usize, g: usize, slate: &mut Slate) -> usize
     requires { Firsts molecule.now.bytes.now parts.now p g }
     ensures position { Position (key_at molecule.now.bytes.now parts.now p) g slate.old result }
@@ -42,7 +45,6 @@ fn open(parts: &mut [u64], p: usize, g: usize, k: usize, i: usize)
 }
 
 // Puts candidate i at the end of the group whose first member is f.
-#[tactic(auto, unfolding(crate::specs::Inner::Grouped::joined))]
 fn join(parts: &mut [u64], p: usize, f: usize, i: usize)
     requires { (7 * p ≤ length parts.old) × (f < p) × (i < p) × (get_or parts.old (6 * p + f) 0 < p) }
     ensures { parts.new ≡ joined parts.old p f i }

@@ -49,6 +49,11 @@ table_laws r ok = record { twins = m1 r; falls = m2 r; covers = m3 r ok }
 pub complete : (r : Bytes) → check r ≡ accepted → (x y : ℕ) → Twins r x y → IsMatch (pairs r) x y
 complete = all_listed
 
+-- match m is the m-th of the list
+pub pair_is : (ms : List Pair) (m : ℕ) → pair ms m ≡ get_or ms m (record { h1 = 0; h2 = 0 })
+unfolding pair
+pair_is ms m = refl
+
 -- a match's size is that of either fragment
 pub size_of_first : (ms : List Pair) (m : ℕ) → size (pair ms m).h1 ≡ size_of ms m
 unfolding size_of

@@ -1,7 +1,11 @@
 #![tactic(auto)]
 // The search's memo (src/memoize.rs): entries of 80 words in the lent table, found by a hash of the piece labels and settled by the labels.
 // An entry has sets that stand for its pieces (crate desk), so that most labels are settled by comparing sets. A state that asks first drafts
-// its own entry in 80 words. specs/Inner/Stored.antt has the layout.
+// its own entry in 80 words. specs/Inner/Stored.antt has the layout: words, as C lends the table, and so is a draft, which is copied into it.
+// memo and entries stay two parameters: a struct that holds the lent words owes in each contract a clause that it is the same loan.
+// A state's pieces, index and removals go one by one, as slices: this crate does not stand on `state`. A set stays a word, as slate.rt of `canonize` says,
+// and that a draft is an entry stays a clause: while it is drafted its words are none yet.
+// Numbers turn by `as`, shown to lose nothing: usize has no From, and a TryFrom would answer an error that never is.
 ghost use Rattle.std.specs.Prelude.{◌≡◌, not, ◌||◌, List, ◌+◌, ◌*◌, ◌/◌, ◌%◌, ◌≤◌, ◌<◌, length, get_or, ltb};
 ghost use Rattle.canonize.specs.Label.{label};
 ghost use Rattle.canonize.specs.Strings.{lex_le, sort, hash};
@@ -56,7 +60,7 @@ fn same_pieces(
     molecule: &Molecule,
     memo: &[u64],
     base: usize,
-    new: &[u64],
+    new: &[u64; 80],
     count: usize,
     slate: &mut Slate,
 ) -> bool
@@ -87,7 +91,7 @@ fn bucket(total: u64, room: usize) -> usize
 }
 
 // Whether entry e has the key of the new entry.
-fn is_key(molecule: &Molecule, memo: &[u64], e: usize, new: &[u64], slate: &mut Slate) -> bool
+fn is_key(molecule: &Molecule, memo: &[u64], e: usize, new: &[u64; 80], slate: &mut Slate) -> bool
     requires { ((x : Entry) × EntryWords molecule.now.bytes.now memo.now (80 * e) x)
         × ((y : Entry) × EntryWords molecule.now.bytes.now new.now 0 y) }
     ensures { (x y : Entry) → EntryWords molecule.now.bytes.now memo.now (80 * e) x
@@ -108,7 +112,7 @@ fn locate(
     molecule: &Molecule,
     memo: &[u64],
     entries: usize,
-    new: &[u64],
+    new: &[u64; 80],
     slate: &mut Slate,
 ) -> Option<usize>
     requires { ((m : List Entry) × Stored molecule.now.bytes.now memo.now entries m)
@@ -121,7 +125,7 @@ fn locate(
         return None;
     }
     let mut k = memo[80 * bucket(new[67], room) + 69];
-    // A while: the entries of a bucket are a chain in the lent words, with 0 at its end.
+    // A while: the entries of a bucket are a chain in the lent words, with 0 at its end, and an iterator would state the chain a second time.
     while k != 0 {
         let e = (k - 1) as usize;
         if is_key(molecule, memo, e, new, slate) {
@@ -133,7 +137,7 @@ fn locate(
 }
 
 // Whether entry e gives way to the new entry: its index is larger, or its removals come later.
-fn gives_way(memo: &[u64], e: usize, new: &[u64]) -> bool
+fn gives_way(memo: &[u64], e: usize, new: &[u64; 80]) -> bool
     requires { Sized memo.now (80 * e) × Sized new.now 0 }
     ensures { result ≡ (ltb (get_or new.now 66 0) (get_or memo.now (80 * e + 66) 0)
         || not (lex_le (removals_at memo.now (80 * e)) (removals_at new.now 0))) }
@@ -149,16 +153,16 @@ fn gives_way(memo: &[u64], e: usize, new: &[u64]) -> bool
 }
 
 // Entry e gets the words of the new entry.
-fn overwrite(memo: &mut [u64], e: usize, new: &[u64])
-    requires { (80 * e + 68 ≤ length memo.old) × (68 ≤ length new.now) }
+fn overwrite(memo: &mut [u64], e: usize, new: &[u64; 80])
+    requires { 80 * e + 68 ≤ length memo.old }
     ensures { Filled memo.old memo.new (80 * e) 68 new.now }
 {
     memo[80 * e..80 * e + 68].copy_from_slice(&new[..68]);
 }
 
 // The new entry becomes entry e, the last of its bucket.
-fn store(memo: &mut [u64], e: usize, new: &[u64])
-    requires { (80 * e + 80 ≤ length memo.old) × (80 ≤ length new.now) }
+fn store(memo: &mut [u64], e: usize, new: &[u64; 80])
+    requires { 80 * e + 80 ≤ length memo.old }
     ensures { Put memo.old memo.new e (get_or new.now 67 0 % (length memo.old / 80)) new.now }
 {
     let h = bucket(new[67], memo.len() / 80);
@@ -173,7 +177,7 @@ fn answer(
     molecule: &Molecule,
     memo: &mut [u64],
     entries: usize,
-    new: &[u64],
+    new: &[u64; 80],
     slate: &mut Slate,
 ) -> Result<Option<usize>, Full>
     requires { ((m : List Entry) × Stored molecule.now.bytes.now memo.old entries m)
@@ -200,12 +204,12 @@ fn answer(
 fn stand_all(
     molecule: &Molecule,
     pieces: &[u64],
-    new: &mut [u64],
+    new: &mut [u64; 80],
     desk: &mut [u64],
     slate: &mut Slate,
 ) -> u64
     requires { Cached molecule.now.bytes.now desk.old × Fragments molecule.now.bytes.now pieces.now
-        × (length pieces.now ≤ 32) × (80 ≤ length new.old) }
+        × (length pieces.now ≤ 32) }
     ensures stood { Stood molecule.now.bytes.now pieces.now new.new result }
     ensures cached { Cached molecule.now.bytes.now desk.new }
 {
@@ -219,8 +223,8 @@ fn stand_all(
     total
 }
 
-// The words from place k on become the removals.
-fn put_removals(new: &mut [u64], k: usize, removals: &[u32])
+// The words from place k on become the removals. A loop: the library's copies do not turn u32 into u64.
+fn put_removals(new: &mut [u64; 80], k: usize, removals: &[u32])
     requires { k + length removals.now ≤ length new.old }
     ensures { Filled new.old new.new k (length removals.now) removals.now }
 {
@@ -235,12 +239,12 @@ fn draft(
     pieces: &[u64],
     index: u32,
     removals: &[u32],
-    new: &mut [u64],
+    new: &mut [u64; 80],
     desk: &mut [u64],
     slate: &mut Slate,
 )
     requires { Cached molecule.now.bytes.now desk.old × Fragments molecule.now.bytes.now pieces.now
-        × (length pieces.now + length removals.now ≤ 32) × (80 ≤ length new.old) }
+        × (length pieces.now + length removals.now ≤ 32) }
     ensures entry { EntryWords molecule.now.bytes.now new.new 0
         (entry_with molecule.now.bytes.now pieces.now index removals.now) }
     ensures cached { Cached molecule.now.bytes.now desk.new }

@@ -1,4 +1,5 @@
-// The fields of a record.
+// The fields of a record, a function for each. They take the bytes, and a clause says what must be known of them: check asks for fields before there
+// is a Molecule.
 ghost use Rattle.std.specs.Prelude.{◌≡◌, ◌≤◌, ◌<◌, length};
 ghost use Rattle.molecule.specs.Record.{atoms, bonds, element, end_a, end_b, code};
 ghost use Rattle.molecule.specs.Tree.{RightCounts};

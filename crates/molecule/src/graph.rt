@@ -9,7 +9,8 @@ ghost use Rattle.molecule.specs.Inner.Growth.{Frontier};
 
 use crate::fields;
 
-// The bonds at each atom.
+// The bonds at each atom. From here to touching_from a function takes the record's bytes: a Molecule is made of what these answer. A number is turned
+// by `as`, since usize and u32 or u64 have no From.
 pub fn bonds_at(bytes: &[u8]) -> [u64; 65]
     requires { Formed bytes.now }
     ensures { result ≡ bonds_at_words bytes.now }
@@ -45,7 +46,8 @@ pub fn touching_from(bytes: &[u8], at: &[u64; 65]) -> [u64; 64]
     touch
 }
 
-// The bonds that are next to a bond of s, in s or not.
+// The bonds that are next to a bond of s, in s or not. From here on a function takes the words touch: a Molecule would ask more of callers, since what
+// is promised holds of any words.
 fn next_to(touch: &[u64; 64], s: u64) -> u64
     ensures { result ≡ unions (λ (i : ℕ). get_or touch.now i 0) (members s) }
 {
@@ -80,6 +82,7 @@ pub fn reach(touch: &[u64; 64], s: u64, c: u64) -> u64
 {
     let mut part = c;
     let mut last = c;
+    // A while: how many rounds it takes shows only as it goes.
     while last != 0 {
         let next = grow_round(touch, s, part, last);
         if next == s {

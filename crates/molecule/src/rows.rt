@@ -1,4 +1,5 @@
 // The scans of rows 3 to 6: each answers the lowest number at fault, where there is one.
+// They take the bytes, and a clause that the counts are right, for the reason in fields.rt: check runs them before there is a Molecule.
 ghost use Rattle.std.specs.Prelude.{◌≡◌};
 ghost use Rattle.molecule.specs.Record.{atoms, bonds};
 ghost use Rattle.molecule.specs.Check.{wrong_element, wrong_code, wrong_ends, bad_element, bad_code, bad_ends, unreached};

@@ -31,6 +31,8 @@ impl<'a> Molecule<'a> {
     }
 }
 
+// The fields again, each by one call: what the functions of fields.rt ask for is known here.
+#[tactic(auto, using(crate::proofs::Accepted::accepted_formed))]
 impl Molecule<'_> {
     // The number of atoms.
     pub fn atoms(&self) -> usize

@@ -55,6 +55,10 @@ module _ {l : List ℕ} {all left : List Match} {m k : ℕ} {old now : List ℕ}
         ∙ ap (sets old (4 * m)) (sym (words_append l w.done ms));
   }
 
+  -- there is one more
+  pub writing_room : {one : Match} {rest : List Match} → left ≡ one ∷ rest → k < m + length all
+  writing_room e = omega (arith, w.count, ap length w.split, length-append w.done left, ap length e)
+
   -- all are
   module _ (e : left ≡ []) where
     all_done : w.done ≡ all

@@ -52,7 +52,7 @@ fn walk(molecule: &Molecule, parts: &mut [u64], p: usize) -> Result<Done, u64>
     requires { (bonds molecule.now.bytes.now ≤ p) × (p ≤ 4294967295) × (12 * p ≤ length parts.old) }
     ensures { Walked molecule.now.bytes.now parts.new p result }
 {
-    rounds::start(molecule, parts, p);
+    rounds::start(parts, p, molecule.bonds());
     let mut slate = Slate::new();
     let mut from = 0;
     let mut to = molecule.bonds();

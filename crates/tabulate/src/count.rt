@@ -13,6 +13,7 @@ pub enum CountRefusal {
     Full(Full),
 }
 
+// By hand: the From that the kit's `thiserror` derives has no contract.
 impl From<Fault> for CountRefusal {
     ghost use Rattle.tabulate.specs.declared.count.CountRefusal.TheVariants.{Record};
 

@@ -1,4 +1,5 @@
 // Pairs of a group of candidates are tried in order, and members become nodes when first matched. Regions of p words as in specs/Inner/Noded.antt.
+// start is of a group and done of the whole table, so they stay two parameters.
 ghost use Rattle.std.specs.Prelude.{List, ℕ, ◌+◌, get_or};
 ghost use Rattle.molecule.specs.Lists.{fold};
 ghost use Rattle.matches.specs.Table.{Group, note};
@@ -61,7 +62,7 @@ fn pair_with(parts: &mut [u64], p: usize, i: usize, start: usize, done: Done) ->
 {
     let mut d = done;
     let mut k = parts[5 * p + i];
-    // A while: it follows the chain of the group.
+    // A while: it follows the chain of the group, through words that the body writes, so no iterator can hold them.
     while k != 0 {
         let j = (k - 1) as usize;
         d = meet(parts, p, i, j, start, d)?;
@@ -79,7 +80,7 @@ fn pair_group(parts: &mut [u64], p: usize, first: usize, done: Done) -> Option<D
 {
     let mut d = done;
     let mut k = first as u64 + 1;
-    // A while: it follows the chain of the group.
+    // A while: it follows the chain of the group, through words that the body writes, so no iterator can hold them.
     while k != 0 {
         let i = (k - 1) as usize;
         d = pair_with(parts, p, i, done.nodes, d)?;

@@ -1,5 +1,6 @@
 // The table size by size: the single bonds, and one size more. Regions of p words of parts as in specs/Inner of `enumerate` and specs/Inner/Noded.antt.
-ghost use Rattle.std.specs.Prelude.{◌≡◌, ℕ, ◌*◌, ◌≤◌, length};
+ghost use Rattle.std.specs.Prelude.{◌≡◌, ℕ, ◌*◌, ◌≤◌, ◌<◌, length};
+ghost use Rattle.molecule.specs.Lists.{Bytes};
 ghost use Rattle.molecule.specs.Record.{bonds};
 ghost use Rattle.tabulate.specs.Inner.Stage.{Stage, Sizing, NextSize};
 
@@ -9,13 +10,12 @@ use canonize::Slate;
 use enumerate::{found, groups};
 use molecule::Molecule;
 
-// The single bonds are the nodes, each alone in its group.
-#[tactic(auto, using(molecule::proofs::Accepted::accepted_formed))]
-pub fn start(molecule: &Molecule, parts: &mut [u64], p: usize)
-    requires { (bonds molecule.now.bytes.now ≤ p) × (p ≤ 4294967295) × (12 * p ≤ length parts.old) }
-    ensures { Stage molecule.now.bytes.now parts.new p 0 }
+// The n single bonds are the nodes, each alone in its group.
+pub fn start(parts: &mut [u64], p: usize, n: usize)
+    requires { (0 < p) × (n ≤ p) × (n ≤ 64) × (12 * p ≤ length parts.old) × (p ≤ 4294967295) }
+    ensures { (r : Bytes) → bonds r ≡ n → Stage r parts.new p 0 }
 {
-    for i in 0..molecule.bonds() {
+    for i in 0..n {
         parts[i] = bitset::single(i as u32);
         parts[8 * p + i] = i as u64;
     }

@@ -4,7 +4,8 @@ ghost use Rattle.std.proofs.lemmas.List.Edits.{sets};
 ghost use Rattle.matches.specs.Inner.Descending.{with_each};
 ghost use Rattle.matches.specs.Inner.Written.{four_words, words_of, start_in, below_in, matches_in, StartsBefore};
 
-// Puts the match of sets a and b at place m: both sets, their union and their size.
+// Puts the match of sets a and b at place m: both sets, their union and their size. A place is counted in words: rows of four (as_chunks_mut)
+// are no plainer, since the clauses are of the lent words, and each would have to turn rows back into words.
 fn put(pairs: &mut [u64], m: usize, a: u64, b: u64)
     requires { 4 * m + 4 ≤ length pairs.old }
     ensures { pairs.new ≡ sets pairs.old (4 * m) (four_words a b) }

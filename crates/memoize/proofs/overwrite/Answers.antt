@@ -7,4 +7,4 @@ pub copy_from_slice-requires : goal.copy_from_slice-requires
 copy_from_slice-requires c = simp (length-take, length-drop) (omega arith)
 
 pub returns : goal.returns
-returns c = filled_part c.args.memo.now c.args.new.now _ (80 * c.args.e) 68 _ (omega arith) c.requires.0 c.requires.1 c.copy_from_slice.ensures.after
+returns c = filled_part c.args.memo.now c.args.new.now _ (80 * c.args.e) 68 _ (omega arith) c.requires (omega arith) c.copy_from_slice.ensures.after

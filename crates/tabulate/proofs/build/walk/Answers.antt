@@ -1,12 +1,18 @@
 -- A size is found, or has no room.
-use Rattle.std.proofs.Common.{◌≡◌, Some, None, arith}
+use Rattle.std.proofs.Common.{◌≡◌, sym, Some, None, arith}
 use Rattle.std.proofs.lemmas.Result.{err_from_is_err_and}
 use Rattle.molecule.proofs.Accepted.{accepted_formed}
 use Rattle.tabulate.proofs.Building.{walking_start, walking_end, walking_sizing, walking_size, walking_over, walking_count}
 use Rattle.tabulate.proofs.build.walk.Goals as goal
 
+pub start-requires : goal.start-requires
+start-requires c =
+    let q = c.requires in
+    let f = (accepted_formed _ c.args.molecule.now.accepted).sized in
+    (omega (arith, f.some, c.bonds.ensures), omega (arith, c.bonds.ensures), omega (arith, f.few, c.bonds.ensures), q.2, q.1)
+
 pub loop-from-init : goal.loop-from-init
-loop-from-init c = walking_start _ c.start.ensures c.bonds-to.ensures (omega arith)
+loop-from-init c = walking_start _ (c.start.ensures _ (sym c.bonds.ensures)) c.bonds-to.ensures (omega arith)
 
 pub returns-in_err-done : goal.returns-in_err-done
 returns-in_err-done c =

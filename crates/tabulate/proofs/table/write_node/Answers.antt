@@ -1,7 +1,15 @@
 -- Node y - 1 is disjoint to node x: they are the next match.
-use Rattle.std.proofs.Common.{refl, [], ◌∷◌, ◌-◌}
-use Rattle.tabulate.proofs.Writing.{writing_more, left_hit}
+use Rattle.std.proofs.Common.{refl, [], ◌∷◌, ◌-◌, arith}
+use Rattle.matches.specs.Inner.Written.{start_in, below_in}
+use Rattle.tabulate.proofs.Writing.{writing_more, writing_room, left_hit, each_length}
 use Rattle.tabulate.proofs.table.write_node.Goals as goal
+
+pub put-requires : goal.put-requires
+put-requires c =
+    let a = c.args in
+    let l = a.parts.now in
+    let e = left_hit l a.x (start_in l a.p a.x) c.loop-y.y c.loop-y-test.true (c.if-is_disjoint.ensures {u = tt}) in
+    omega (arith, writing_room c.loop-y.invariant e, each_length a.x (below_in l a.p a.x))
 
 pub loop-y-preserved-then-is_disjoint : goal.loop-y-preserved-then-is_disjoint
 loop-y-preserved-then-is_disjoint c =

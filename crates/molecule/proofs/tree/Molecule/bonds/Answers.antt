@@ -1,9 +1,0 @@
--- The counts are there.
-use Rattle.std.proofs.Common.{arith}
-use Rattle.molecule.proofs.Accepted.{accepted_formed}
-use Rattle.molecule.proofs.tree.Molecule.bonds.Goals as goal
-
-pub bonds-requires : goal.bonds-requires
-bonds-requires c =
-    let m = c.args.self.now in
-    omega (arith, (accepted_formed m.bytes.now m.accepted).sized.long)
