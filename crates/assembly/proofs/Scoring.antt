@@ -1,5 +1,5 @@
 -- score's answer, row by row, what is lent to it afterwards, and demand 3. Assumes nothing.
-use Rattle.std.proofs.Common.{◌≡◌, Result, Ok, Err, refl, sym, ap, ◌∙◌, Bool, true, false, ◌||◌, ⊎_elim, List, [], ◌++◌, ℕ, ◌-◌, ◌*◌, ◌≤◌, ◌<◌, arith, length, take, drop, replicate, length-take, take_at, ltb, lt-ltb, le-ltb, le-leb}
+use Rattle.std.proofs.Common.{◌≡◌, Result, Ok, Err, refl, sym, ap, ◌∙◌, Bool, true, false, ◌||◌, ⊎_elim, List, [], ◌++◌, ℕ, ◌-◌, ◌*◌, ◌≤◌, ◌<◌, arith, length, take, drop, replicate, take_at, ltb, lt-ltb, le-ltb, le-leb}
 use Rattle.std.proofs.Math.ListN.{length-replicate}
 use borrow.Author.Tests.{lt-leb}
 use Rattle.bitset.proofs.Bools.{or_left, or_right}
@@ -151,9 +151,9 @@ module _ (r : Bytes) (setting : Setting) (room : Room) (entry : entry_answer r s
   zeros_after words now e = e ∙ sym (late (score_answer r setting room) back_late words)
 
 -- none of rows 1 to 8 applies
-module _ (r : Bytes) (setting : Setting) (lent : Loan) (w : Admitted r setting lent) where
+module _ (r : Bytes) (ok : check r ≡ accepted) (setting : Setting) (lent : Loan) (w : Admitted setting lent) where
   entry : entry_answer r setting (room_of lent) ≡ accepted
-  entry = entry_accepts r setting (room_of lent) w.ok w.bounds w.memo w.trail w.desk
+  entry = entry_accepts r setting (room_of lent) ok w.bounds w.memo w.trail w.desk
 
   -- every word of the four tables is zero
   pub leaves_cleared : (now : Loan) → now.trail ≡ trail_after (answer_to r setting lent) lent.trail → TablesZero lent now → Leaves (answer_to r setting lent) lent now
@@ -210,14 +210,13 @@ module _ (r : Bytes) (setting : Setting) (memo : List ℕ) (m : ℕ) (same : m �
   answer_is x e = ap (searched (match_table r)) (ap (λ (k : ℕ). definition.search r (pairs r) setting (memo_room k)) (sym same) ∙ e)
 
   -- what is found, whose removals are written into the trail: a score
-  pub told_score : (o : Found) (k : List Entry) → definition.search r (pairs r) setting (memo_room m) ≡ found_as o k → length o.trail ≡ 32 → o.length ≤ 32
-      → (n : ℕ) → n ≡ length (pairs r) → (old : List ℕ)
-      → AnswerTold (search_answer r setting memo) (Ok (record { index = o.index; matches = n; states = o.run.states; length = o.length })) old
-      (take o.length o.trail ++ (replicate (32 - length (take o.length o.trail)) 0 ++ drop 32 old))
+  pub told_score : (o : Found) (k : List Entry) → definition.search r (pairs r) setting (memo_room m) ≡ found_as o k → (n : ℕ) → n ≡ length (pairs r) → (old : List ℕ)
+      → AnswerTold (search_answer r setting memo) (Ok (record { index = o.index; matches = n; states = o.run.states; length = length o.trail.items })) old
+      (o.trail.items ++ (replicate (32 - length o.trail.items) 0 ++ drop 32 old))
   unfolding searched trail_after
-  told_score o k e l few n c old =
-      let τ : List ℕ = take o.length o.trail in
-      let front = take_at τ (replicate (32 - length τ) 0 ++ drop 32 old) o.length (simp length-take (omega arith)) in
+  told_score o k e n c old =
+      let τ : List ℕ = o.trail.items in
+      let front = take_at τ (replicate (32 - length τ) 0 ++ drop 32 old) (length τ) refl in
       rw (answer_is _ e, c ∙ pairs_length (match_table r)) (record { answer = ap (scored o.index (length (match_table r).matches) o.run.states) front; ends = refl })
 
   -- rows 11 and 12, and the trail as it was

@@ -5,7 +5,7 @@ use molecule::{Fault, Refusal};
 use recurse::visit::Halt;
 use tabulate::build::Full;
 
-// The index, the matches of the record, the states entered, and how many removals the trail has.
+// The index, the matches of the record, the states entered, and how many removals the trail has: a number, since the trail is the caller's.
 #[derive(Clone, Copy, Debug, PartialEq, Eq)]
 pub struct Score {
     pub index: u32,
@@ -25,6 +25,7 @@ pub enum ScoreRefusal {
     Halt(Halt),
 }
 
+// By hand, here and below: the From that the kit's `thiserror` derives has no contract.
 impl From<Fault> for ScoreRefusal {
     ghost use Rattle.assembly.specs.declared.answer.ScoreRefusal.TheVariants.{Record};
 

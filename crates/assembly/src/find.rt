@@ -6,16 +6,19 @@ ghost use Rattle.assembly.specs.Inner.Parts.{search_answer, AnswerTold};
 
 use crate::answer::{Score, ScoreRefusal};
 use crate::trail as numbers;
+use branch::searched::Searched;
 use molecule::Molecule;
 use recurse::run;
 use search::Setting;
+use state::scan::Rows;
 
-// The search of a molecule, whose matches are at the front of pairs; memo and desk may hold anything. A score's removals go to the trail.
-pub fn find(
-    molecule: &Molecule,
+// The search of a molecule, whose matches are at the front of pairs, so many: the table is the caller's, as C lends it. Memo and desk may hold anything.
+// A score's removals go to the trail. What is lent stays slices, as score.rt says.
+pub fn find<'a>(
+    molecule: &'a Molecule<'a>,
     setting: Setting,
     trail: &mut [u32],
-    pairs: &[u64],
+    pairs: &'a [u64],
     matches: u64,
     memo: &mut [u64],
     desk: &mut [u64],
@@ -26,13 +29,18 @@ pub fn find(
 {
     clear::zero(memo);
     clear::zero(desk);
-    let words = 4 * matches as usize;
-    let found = run::run(molecule, &pairs[..words], setting, memo, desk)?;
-    numbers::write(&found.trail[..found.length], trail);
+    let (words, _) = pairs[..4 * matches as usize].as_chunks::<4>();
+    let searched = Searched {
+        molecule,
+        rows: Rows { words },
+        setting,
+    };
+    let found = run::run(&searched, memo, desk)?;
+    numbers::write(&found.trail, trail);
     Ok(Score {
         index: found.index,
         matches,
         states: found.run.states,
-        length: found.length as u32,
+        length: found.trail.len() as u32,
     })
 }

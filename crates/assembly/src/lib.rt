@@ -1,5 +1,6 @@
 #![tactic(auto)]
 // score (`index_search` of src/assembly.rs).
+// Numbers turn by `as`, shown to lose nothing: usize has no From, and a TryFrom would answer an error that never is.
 pub use search::Setting;
 
 pub mod answer;

@@ -9,7 +9,8 @@ use molecule::Molecule;
 use search::Setting;
 use tabulate::build;
 
-// Rows 9 to 12, where none of rows 1 to 8 applies.
+// Rows 9 to 12, where none of rows 1 to 8 applies. What is lent stays five slices, here and below: a struct that holds them would owe in each contract
+// a clause for each, that it is the same loan.
 fn answer(
     molecule: &Molecule,
     setting: Setting,
@@ -19,7 +20,7 @@ fn answer(
     memo: &mut [u64],
     desk: &mut [u64],
 ) -> Result<Score, ScoreRefusal>
-    requires { Admitted molecule.now.bytes.now setting (loan trail.old parts.old pairs.old memo.old desk.old) }
+    requires { Admitted setting (loan trail.old parts.old pairs.old memo.old desk.old) }
     ensures { AnswerTold (answer_to molecule.now.bytes.now setting
         (loan trail.old parts.old pairs.old memo.old desk.old))
         result trail.old trail.new }
@@ -38,7 +39,7 @@ fn answer_and_clear(
     memo: &mut [u64],
     desk: &mut [u64],
 ) -> Result<Score, ScoreRefusal>
-    requires { Admitted molecule.now.bytes.now setting (loan trail.old parts.old pairs.old memo.old desk.old) }
+    requires { Admitted setting (loan trail.old parts.old pairs.old memo.old desk.old) }
     ensures told { AnswerTold (answer_to molecule.now.bytes.now setting
         (loan trail.old parts.old pairs.old memo.old desk.old))
         result trail.old trail.new }

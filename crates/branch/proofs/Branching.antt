@@ -1,27 +1,27 @@
 -- What a state's removals are tried from, the next to try, and the state after it. Of an accepted record, with its own matches where a state is entered.
 use mathlib.Core.Path.{◌≡◌, refl, sym, ap, subst, ◌∙◌}
 use mathlib.Core.Logic.{◌⊎◌, inl, inr}
-use mathlib.Core.Bool.{Bool, true, false, ◌||◌}
+use mathlib.Core.Bool.{Bool, true, false, ◌&&◌}
 use mathlib.Core.List.Memᴰ.{append_cases as mem_cases}
 use mathlib.Core.List.Memᴰ.{cases_cons as mem_cons}
 use mathlib.Core.List.Memᴰ.{eq_of_singleton as mem_one}
 use mathlib.Core.List.Memᴰ.{head as m_head}
 use mathlib.Core.List.Memᴰ.{not-nil}
 use mathlib.Core.List.Memᴰ.{tail as m_tail}
-use mathlib.Core.List.{List, [], ◌∷◌, ◌++◌, flat_map, Memᴰ as Mem}
+use mathlib.Core.List.{List, [], ◌∷◌, flat_map, Memᴰ as Mem}
 use Prim.Native.Nat.{ℕ, zero, suc, ◌+◌, ◌-◌, ◌*◌, ◌/◌, ◌^◌, ◌≤◌, ◌<◌}
 use native.Mathlib.Omega.{arith}
 use native.Mathlib.Nat.{sub-zero}
 use native.Mathlib.Numerals.{add-one}
 use lib.Bits.{bit_and, bit_or}
-use lib.Dec.{leb, ltb, eqb}
+use lib.Dec.{leb, ltb}
 use lib.ListN.{length, get_or, take, drop}
-use lib.Seq.{length-take-le, take_at}
 use borrow.Author.Tests.{le-leb, lt-leb, ltb-true, lt-ltb}
-use Rattle.std.proofs.Common.{get_or-take, get_or-drop, length-take}
+use Rattle.std.proofs.Common.{get_or-take, get_or-drop, length-take, length-drop}
 use Rattle.std.specs.List.{AllWithin}
 use Rattle.std.specs.List.Sorted.{IsPartitionedBy}
-use Rattle.std.specs.Simd.{first_chunks}
+use Rattle.std.proofs.lemmas.List.{get_or_default}
+use Rattle.matches.specs.Inner.Written.{four_words}
 use Rattle.bitset.specs.Bits.{Sub, size, diff, unions}
 use Rattle.bitset.proofs.Bools.{two, and_true}
 use Rattle.bitset.proofs.Laws.{size_mono, size_diff, size_disjoint}
@@ -51,10 +51,11 @@ use Rattle.search.proofs.Ends.{count_two, keep_size, child_fine, child_falls, ch
 use Rattle.state.specs.declared.State as code
 use Rattle.state.specs.Inner.Views.{state_of}
 use Rattle.state.specs.Inner.Pieces.{bonds_in, bonds_left, Big, Owned, OwnedFragments, Chosen}
-use Rattle.state.specs.Inner.Scan.{Owners, Scanning, Told, goes}
-use Rattle.branch.specs.Inner.Entered.{Searched, Entered}
-use Rattle.branch.specs.Inner.Branching.{least_tried, Passes, tried_from, Turn, Chooses, Below}
-use Rattle.state.proofs.Scanning.{inside_whole, removable_in, removable_out, removable_end, told_out}
+use Rattle.state.specs.Inner.Scan.{rows_of, Told, goes}
+use Rattle.branch.specs.Inner.Entered.{Entered}
+use Rattle.branch.specs.Inner.Trying.{tried_from}
+use Rattle.branch.specs.Inner.Branching.{least_tried, Passes, Chooses, Below}
+use Rattle.state.proofs.Scanning.{inside_whole, removable_in, removable_out, removable_end, told_out, row_at, rows_long}
 
 -- ---- lists
 
@@ -88,22 +89,22 @@ left_less (q ∷ P) gone h p i a b t = go (mem_cons i) (left_less P gone h p)
 
 -- ---- the least size tried
 
-module _ (bounds : ℕ) (mask : ℕ → ℕ) (pieces : List ℕ) (index best largest : ℕ) where
-  pub least_on : (eqb bounds 2 || eqb bounds 3) ≡ true → least_tried bounds mask pieces index best largest ≡ least_size ceil_log2 mask pieces index best largest
+module _ (edges : Bool) (mask : ℕ → ℕ) (pieces : List ℕ) (index best largest : ℕ) where
+  pub least_on : edges ≡ true → least_tried edges mask pieces index best largest ≡ least_size ceil_log2 mask pieces index best largest
   unfolding least_tried
   least_on e = rw (e, least_tried)
 
-  pub least_off : (eqb bounds 2 || eqb bounds 3) ≡ false → least_tried bounds mask pieces index best largest ≡ 2
+  pub least_off : edges ≡ false → least_tried edges mask pieces index best largest ≡ 2
   unfolding least_tried
   least_off e = rw (e, least_tried)
 
-least_masks : (bounds : ℕ) (f g : ℕ → ℕ) (pieces : List ℕ) (index best largest : ℕ) → f 2 ≡ g 2 → ((k : ℕ) → 2 ≤ k → k ≤ largest → f k ≡ g k)
-    → least_tried bounds f pieces index best largest ≡ least_tried bounds g pieces index best largest
-least_masks bounds f g pieces index best largest e h = go (two (eqb bounds 2 || eqb bounds 3))
+least_masks : (edges : Bool) (f g : ℕ → ℕ) (pieces : List ℕ) (index best largest : ℕ) → f 2 ≡ g 2 → ((k : ℕ) → 2 ≤ k → k ≤ largest → f k ≡ g k)
+    → least_tried edges f pieces index best largest ≡ least_tried edges g pieces index best largest
+least_masks edges f g pieces index best largest e h = go (two edges)
   where
-    go : ((eqb bounds 2 || eqb bounds 3) ≡ true) ⊎ ((eqb bounds 2 || eqb bounds 3) ≡ false) → least_tried bounds f pieces index best largest ≡ least_tried bounds g pieces index best largest
-    go (inl t) = least_on bounds f pieces index best largest t ∙ least_same ceil_log2 f g pieces index best largest e h ∙ sym (least_on bounds g pieces index best largest t)
-    go (inr t) = least_off bounds f pieces index best largest t ∙ sym (least_off bounds g pieces index best largest t)
+    go : (edges ≡ true) ⊎ (edges ≡ false) → least_tried edges f pieces index best largest ≡ least_tried edges g pieces index best largest
+    go (inl t) = least_on edges f pieces index best largest t ∙ least_same ceil_log2 f g pieces index best largest e h ∙ sym (least_on edges g pieces index best largest t)
+    go (inr t) = least_off edges f pieces index best largest t ∙ sym (least_off edges g pieces index best largest t)
 
 module _ (r : Bytes) (ms : List Pair) (setting : Setting) (room : ℕ) (s : State) (ns : List ℕ) (best : ℕ) where
   tried_on : has_matchable_edges setting ≡ true → tried r ms setting room s ns best ≡ filter (λ m. leb (least_size ceil_log2 (mask_of r ms ns) s.pieces s.index best (max_of (size_of ms) ns)) (size_of ms m)) ns
@@ -115,14 +116,14 @@ module _ (r : Bytes) (ms : List Pair) (setting : Setting) (room : ℕ) (s : Stat
   tried_off e = rw (e, tried)
 
   -- what is tried, by the least size
-  tried_is : (least : ℕ) → least ≡ least_tried setting.bounds (mask_of r ms ns) s.pieces s.index best (max_of (size_of ms) ns) → ((m : ℕ) → Mem m ns → 2 ≤ size_of ms m)
+  tried_is : (least : ℕ) → least ≡ least_tried (has_matchable_edges setting) (mask_of r ms ns) s.pieces s.index best (max_of (size_of ms) ns) → ((m : ℕ) → Mem m ns → 2 ≤ size_of ms m)
       → tried r ms setting room s ns best ≡ filter (λ m. leb least (size_of ms m)) ns
   tried_is least e h = go (two (has_matchable_edges setting))
     where
       go : (has_matchable_edges setting ≡ true) ⊎ (has_matchable_edges setting ≡ false) → tried r ms setting room s ns best ≡ filter (λ m. leb least (size_of ms m)) ns
-      go (inl t) = tried_on t ∙ ap (λ (k : ℕ). filter (λ m. leb k (size_of ms m)) ns) (sym (e ∙ least_on setting.bounds (mask_of r ms ns) s.pieces s.index best (max_of (size_of ms) ns) t))
+      go (inl t) = tried_on t ∙ ap (λ (k : ℕ). filter (λ m. leb k (size_of ms m)) ns) (sym (e ∙ least_on (has_matchable_edges setting) (mask_of r ms ns) s.pieces s.index best (max_of (size_of ms) ns) t))
       go (inr t) =
-          let q : least ≡ 2 = e ∙ least_off setting.bounds (mask_of r ms ns) s.pieces s.index best (max_of (size_of ms) ns) t in
+          let q : least ≡ 2 = e ∙ least_off (has_matchable_edges setting) (mask_of r ms ns) s.pieces s.index best (max_of (size_of ms) ns) t in
           tried_off t ∙ sym (filter_all (λ m. leb least (size_of ms m)) ns (λ m i. le-leb least (size_of ms m) (omega (arith, h m i))))
 
 -- ---- the next to try
@@ -137,14 +138,11 @@ module _ (r : Bytes) (ms : List Pair) (M : Laws r ms) (pieces : List ℕ) (least
       filter_none (λ m. leb least (size_of ms m)) (removable r ms pieces i)
       (λ m k. let w = removable_mem r ms pieces i m k in lt-leb least (size_of ms m) (omega (arith, M.falls i m w.after w.is)))
 
-  pub next_end : (i : ℕ) → i ≡ length ms → tried_from r ms pieces least i ≡ []
+  pub next_end : (i : ℕ) → length ms ≤ i → tried_from r ms pieces least i ≡ []
   next_end i e = rw (removable_end ms pieces r i e)
 
-  pub next_take : (i : ℕ) → i < length ms → Turn ms pieces least i → tried_from r ms pieces least i ≡ i ∷ tried_from r ms pieces least (i + 1)
-  next_take i h t = rw (add-one, removable_in ms pieces r i h (t.removes h), le-leb least (size_of ms i) (t.large h))
-
-  pub end_turn : (i : ℕ) → i ≡ length ms → Turn ms pieces least i
-  end_turn i e = record { within = omega arith; removes = λ h. absurd (omega arith); large = λ h. absurd (omega arith) }
+  pub next_take : (i : ℕ) → i < length ms → goes ms pieces i ≡ true → least ≤ size_of ms i → tried_from r ms pieces least i ≡ i ∷ tried_from r ms pieces least (suc i)
+  next_take i h e l = rw (removable_in ms pieces r i h e, le-leb least (size_of ms i) l)
 
 -- ---- matches too large
 
@@ -169,41 +167,61 @@ module _ (r : Bytes) (ms : List Pair) (M : Laws r ms) (pieces : List ℕ) where
           let s : Sub (bit_or x y) u = sets (sub (v 0) (v 2) ∷ sub (v 1) (v 2) ∷ []) (sub (or (v 0) (v 1)) (v 2)) (x ∷ y ∷ u ∷ []) tt (inside_whole pieces x b.0) (inside_whole pieces y b.1) in
           absurd (omega (arith, size_mono (bit_or x y) u s, size_disjoint x y (M.twins i h).apart, size_of_first ms i, size_of_second r ms M i h))
 
--- the words of the i-th of n chunks of four
-chunk_word : (n : ℕ) (words : List ℕ) (i k : ℕ) (d : List ℕ) → i < n → k < 4 → get_or (get_or (first_chunks 4 n words) i d) k 0 ≡ get_or words (4 * i + k) 0
-chunk_word zero words i k d h g = absurd (omega arith)
-chunk_word (suc n) words zero k d h g = get_or-take 4 words k 0 g ∙ ap (λ (j : ℕ). get_or words j 0) (omega arith)
-chunk_word (suc n) words (suc i) k d h g = chunk_word n (drop 4 words) i k d (omega arith) g ∙ get_or-drop 4 words (4 * i + k) 0 ∙ ap (λ (j : ℕ). get_or words j 0) (omega arith)
+-- the word k of row m
+pub row_word : (ms : List Pair) (rows : List (List ℕ)) → rows ≡ rows_of ms → (m k : ℕ) (d : List ℕ) → m < length ms → get_or (get_or rows m d) k 0 ≡ get_or (four_words (pair ms m).h1 (pair ms m).h2) k 0
+row_word ms rows e m k d h = ap (λ (row : List ℕ). get_or row k 0) (ap (λ (l : List (List ℕ)). get_or l m d) e ∙ get_or_default (rows_of ms) m d [] (omega (arith, rows_long ms)) ∙ row_at ms m h)
 
--- the matches from .. matches as chunks of four words
-module _ {r : Bytes} {ms : List Pair} {words pieces own : List ℕ} {all : ℕ} (M : Laws r ms) (S : Scanning words ms pieces own all)
-    {matches : ℕ} (count : matches ≡ length ms) {chunks : List (List ℕ)} (front : chunks ≡ first_chunks 4 (length words / 4) words) (from : ℕ) where
-  row_size : (k : ℕ) (d : List ℕ) → k < matches - from → get_or (get_or (take (matches - from) (drop from chunks)) k d) 3 0 ≡ size_of ms (from + k)
+module _ (ms : List Pair) {rows : List (List ℕ)} (listed : rows ≡ rows_of ms) where
+  rows_many : length rows ≡ length ms
+  rows_many = ap (λ (x : List (List ℕ)). length x) listed ∙ rows_long ms
+
+  pub row_there : (m : ℕ) → m < length rows → m < length ms
+  row_there m h = omega (arith, h, rows_many)
+
+  pub rows_end : (m : ℕ) → length rows ≤ m → length ms ≤ m
+  rows_end m h = omega (arith, h, rows_many)
+
+  pub row_sized : (m : ℕ) → m < length ms → get_or (get_or rows m []) 3 0 ≡ size_of ms m
+  row_sized m h = row_word ms rows listed m 3 [] h ∙ size_of_first ms m
+
+  -- both fragments of the row are inside pieces just where the match's are
+  pub row_goes : (pieces : List ℕ) (m : ℕ) → m < length ms → {b : Bool} → (inside pieces (get_or (get_or rows m []) 0 0) && inside pieces (get_or (get_or rows m []) 1 0)) ≡ b → goes ms pieces m ≡ b
+  row_goes pieces m h e = rw (row_word ms rows listed m 0 [] h, row_word ms rows listed m 1 [] h) at e
+
+-- the rows from a number on
+module _ {r : Bytes} {ms : List Pair} (M : Laws r ms) {rows : List (List ℕ)} (listed : rows ≡ rows_of ms) (from : ℕ) (start : from ≤ length rows) where
+  abbrev left : List (List ℕ)
+  left = take (length rows - from) (drop from rows)
+
+  rows_left : from + length left ≡ length ms
+  rows_left = omega (arith, start, length-take (length rows - from) (drop from rows), length-drop from rows, rows_many ms listed)
+
+  row_size : (k : ℕ) (d : List ℕ) → k < length left → get_or (get_or left k d) 3 0 ≡ size_of ms (from + k)
   row_size k d h =
-      ap (λ (row : List ℕ). get_or row 3 0) (get_or-take (matches - from) (drop from chunks) k d h ∙ get_or-drop from chunks k d ∙ ap (λ (l : List (List ℕ)). get_or l (from + k) d) front)
-      ∙ chunk_word (length words / 4) words (from + k) 3 d (omega (arith, S.room)) (omega arith)
-      ∙ S.recorded.sized (from + k) (omega arith)
+      let g : k < length rows - from = omega (arith, h, rows_left, rows_many ms listed, start) in
+      ap (λ (row : List ℕ). get_or row 3 0) (get_or-take (length rows - from) (drop from rows) k d g ∙ get_or-drop from rows k d)
+      ∙ row_word ms rows listed (from + k) 3 d (omega (arith, h, rows_left)) ∙ size_of_first ms (from + k)
 
   -- sizes never grow
-  pub rows_parted : (half : ℕ) → IsPartitionedBy (λ row. ltb half (get_or row 3 0)) (take (matches - from) (drop from chunks))
+  pub rows_parted : (half : ℕ) → IsPartitionedBy (λ row. ltb half (get_or row 3 0)) left
   rows_parted half = λ i j d a b e.
-      let g : j < matches - from = omega (arith, length-take (matches - from) (drop from chunks)) in
-      let big : half < size_of ms (from + j) = ltb-true half (size_of ms (from + j)) (rw (row_size j d g) at e) in
-      rw (row_size i d (omega arith)) (lt-ltb half (size_of ms (from + i)) (omega (arith, M.falls (from + i) (from + j) (omega arith) (omega arith))))
+      let big : half < size_of ms (from + j) = ltb-true half (size_of ms (from + j)) (rw (row_size j d b) at e) in
+      rw (row_size i d (omega (arith, a, b))) (lt-ltb half (size_of ms (from + i)) (omega (arith, big, M.falls (from + i) (from + j) (omega (arith, a)) (omega (arith, rows_left, b)))))
 
   -- those above half of all bonds are not removable
-  pub rows_passed : (half n : ℕ) → half ≡ size all / 2 → n ≤ matches - from → from ≤ matches
-      → AllWithin (λ row. ltb half (get_or row 3 0) ≡ true) (take (matches - from) (drop from chunks)) 0 n → Passes ms pieces from (from + n)
-  rows_passed half n e l k h = record {
+  pub rows_passed : (half n all : ℕ) (pieces : List ℕ) → half ≡ size all / 2 → all ≡ unions (λ p. p) pieces → from + n ≤ length rows
+      → AllWithin (λ row. ltb half (get_or row 3 0) ≡ true) left 0 n → Passes ms pieces from (from + n)
+  rows_passed half n all pieces e u k h = record {
     after = omega arith;
-    within = omega arith;
-    none = λ i a b. let e : from + (i - from) ≡ i = omega arith in rw e at (passed (i - from) (omega arith));
+    within = omega (arith, k, rows_many ms listed);
+    none = λ i a b. let q : from + (i - from) ≡ i = omega (arith, a) in rw q at (passed (i - from) (omega (arith, a, b)));
   }
     where
       passed : (j : ℕ) → j < n → goes ms pieces (from + j) ≡ false
       passed j g =
-          let big : half < size_of ms (from + j) = ltb-true half (size_of ms (from + j)) (rw (row_size j [] (omega arith)) at (h j [] (omega arith) g)) in
-          too_large r ms M pieces (from + j) (omega arith) (omega (arith, ap size S.whole))
+          let l : j < length left = omega (arith, g, k, rows_left, rows_many ms listed) in
+          let big : half < size_of ms (from + j) = ltb-true half (size_of ms (from + j)) (rw (row_size j [] l) at (h j [] (omega arith) g)) in
+          too_large r ms M pieces (from + j) (omega (arith, l, rows_left)) (omega (arith, big, e, ap size u))
 
 -- what is told from a match on is told from an earlier one, where none between is removable
 pub told_earlier : (ms : List Pair) (pieces : List ℕ) (from n start largest : ℕ) (masks : List ℕ) → Passes ms pieces from n → Told ms pieces n masks largest start → Told ms pieces from masks largest start
@@ -224,19 +242,8 @@ module _ (r : Bytes) (ok : check r ≡ accepted) where
   size_least : (m : ℕ) → m < length (pairs r) → 2 ≤ size_of (pairs r) m
   size_least m h = size_of_two r (pairs r) (table_laws r ok) m h
 
-  size_most : (m : ℕ) → m < length (pairs r) → size_of (pairs r) m ≤ 32
+  pub size_most : (m : ℕ) → m < length (pairs r) → size_of (pairs r) m ≤ 32
   size_most m h = omega (arith, size_of_half r (pairs r) (table_laws r ok) m h, few r ok)
-
-pub scanning_of : (r : Bytes) (at touch words : List ℕ) (matches : ℕ) → Searched r at touch words matches → (pieces own : List ℕ) (all : ℕ) → Owners pieces own → all ≡ unions (λ p. p) pieces → Scanning words (pairs r) pieces own all
-scanning_of r at touch words matches S pieces own all o w = record {
-  recorded = S.recorded;
-  room = omega (arith, S.room, S.count);
-  first = λ m h. ((table_laws r S.ok).twins m h).one.some;
-  second = λ m h. ((table_laws r S.ok).twins m h).other.some;
-  most = λ m h. size_most r S.ok m h;
-  owners = o;
-  whole = w;
-}
 
 -- ---- a state
 
@@ -310,15 +317,13 @@ module _ (r : Bytes) (ok : check r ≡ accepted) (s : State) (F : Fine r (pairs 
     next_is = refl
 
     -- the state after the removal may be entered
-    pub child_entered : (c : code.State) → state_of c ≡ child r (pairs r) s (held_of r (pairs r) s) m → c.count ≤ 32 → c.removed ≤ 32 → Entered r c
-    child_entered c e p q =
+    pub child_entered : (c : code.State) → state_of c ≡ child r (pairs r) s (held_of r (pairs r) s) m → Entered r c
+    child_entered c e =
         let M = table_laws r ok in
         let f = child_fine r ok (pairs r) M s m F k in
         record {
           fine = rw e f;
           connected = subst (λ (x : State). (q : ℕ) → Mem q x.pieces → Connected r q) (sym e) child_part;
-          pieces = p;
-          removals = q;
           both = subst (λ (x : State). length x.pieces + length x.removals ≤ 32) (sym e) (omega (arith, f.weight, few r ok, count_two (child r (pairs r) s (held_of r (pairs r) s) m).pieces (child_two r ok (pairs r) M s m F.inv k)));
           after = omega (arith, ap (λ (x : State). x.next) e, next_is, k.is);
         }
@@ -329,32 +334,42 @@ chosen r s held m C =
     let b = and_true _ _ C.removes in
     record { after = C.after; is = C.within; in1 = inside_true (state_of s).pieces (pair (pairs r) m).h1 b.0; in2 = inside_true (state_of s).pieces (pair (pairs r) m).h2 b.1 }
 
--- match m as the words of the table have it
-module _ (r : Bytes) (at touch words : List ℕ) (matches : ℕ) (S : Searched r at touch words matches) (s : code.State) (E : Entered r s) (held : List ℕ) (m : ℕ) (C : Chooses r s held m) where
-  struck_is : get_or words (4 * m + 2) 0 ≡ struck (pairs r) m
-  unfolding struck
-  struck_is = S.recorded.both m C.within
+-- match m as its row has it
+module _ (r : Bytes) (ok : check r ≡ accepted) (rows : List (List ℕ)) (listed : rows ≡ rows_of (pairs r)) (s : code.State) (E : Entered r s) (held : List ℕ) (m : ℕ) (C : Chooses r s held m) where
+  abbrev row : List ℕ
+  row = get_or rows m []
 
-  pub below_asks : s.removed ≤ length s.removals
-      → Big held × (bonds_left (get_or words (4 * m + 2) 0) held + 2 ≤ 64) × (m < 2 ^ 32) × (1 ≤ get_or words (4 * m + 3) 0) × (get_or words (4 * m + 3) 0 - 1 ≤ s.index) × (s.removed < 32)
-  below_asks l =
-      let z = S.recorded.sized m C.within in (
-        rw C.keeps (held_big r S.ok (state_of s) E.fine),
-        rw (C.keeps, struck_is) (held_left r S.ok (state_of s) E.fine m (chosen r s held m C)),
-        omega (arith, S.few, S.count, C.within),
-        omega (arith, z, size_least r S.ok m C.within),
-        omega (arith, z, index_left r S.ok (state_of s) E.fine m (chosen r s held m C)),
-        omega (arith, removals_left r S.ok (state_of s) E.fine m (chosen r s held m C), length-take-le s.removed s.removals l),
+  word : (k : ℕ) → get_or row k 0 ≡ get_or (four_words (pair (pairs r) m).h1 (pair (pairs r) m).h2) k 0
+  word k = row_word (pairs r) rows listed m k [] C.within
+
+  struck_is : get_or row 2 0 ≡ struck (pairs r) m
+  unfolding struck
+  struck_is = word 2
+
+  sized : get_or row 3 0 ≡ size_of (pairs r) m
+  sized = word 3 ∙ size_of_first (pairs r) m
+
+  pub below_asks : length rows ≤ 4294967295
+      → Big held × (bonds_left (get_or row 2 0) held + 2 ≤ 64) × (m < 2 ^ 32) × (1 ≤ get_or row 3 0) × (get_or row 3 0 < 2 ^ 32) × (get_or row 3 0 - 1 ≤ s.index) × (length (state_of s).removals < 32)
+  below_asks few =
+      let R = chosen r s held m C in (
+        rw C.keeps (held_big r ok (state_of s) E.fine),
+        rw (C.keeps, struck_is) (held_left r ok (state_of s) E.fine m R),
+        omega (arith, few, ap (λ (x : List (List ℕ)). length x) listed, rows_long (pairs r), C.within),
+        omega (arith, sized, size_least r ok m C.within),
+        omega (arith, sized, size_most r ok m C.within),
+        omega (arith, sized, index_left r ok (state_of s) E.fine m R),
+        removals_left r ok (state_of s) E.fine m R,
       )
 
-  pub below_is : (c : code.State)
-      → ((bytes : Bytes) (ms : List Pair) → OwnedFragments bytes touch held → Chosen ms m (get_or words (4 * m) 0) (get_or words (4 * m + 2) 0) → size_of ms m ≡ get_or words (4 * m + 3) 0 → state_of c ≡ child bytes ms (state_of s) held m)
-      → (c.count ≤ 32) × (c.removed ≡ s.removed + 1) × (c.removed ≤ 32) → Below r s m c
-  below_is c f n =
-      let h : OwnedFragments r touch held = rw C.keeps (held_held r S.ok (state_of s) E.fine touch S.touches) in
-      let e = f r (pairs r) h (record { first = sym (S.recorded.one m C.within); both = sym struck_is }) (sym (S.recorded.sized m C.within)) in
+  pub below_is : (touch : List ℕ) → touch ≡ touching_words r → (c : code.State)
+      → ((bytes : Bytes) (ms : List Pair) → OwnedFragments bytes touch held → Chosen ms m (get_or row 0 0) (get_or row 2 0) → size_of ms m ≡ get_or row 3 0 → state_of c ≡ child bytes ms (state_of s) held m)
+      → Below r s m c
+  below_is touch touches c f =
+      let h : OwnedFragments r touch held = rw C.keeps (held_held r ok (state_of s) E.fine touch touches) in
+      let e = f r (pairs r) h (record { first = sym (word 0); both = sym struck_is }) (sym sized) in
       let q : state_of c ≡ child r (pairs r) (state_of s) (held_of r (pairs r) (state_of s)) m = rw C.keeps at e in
-      record { is = q; entered = child_entered r S.ok (state_of s) E.fine m (chosen r s held m C) c q n.0 n.2 }
+      record { is = q; entered = child_entered r ok (state_of s) E.fine m (chosen r s held m C) c q }
 
 -- the bonds in pieces fall by two at least, and two are left at least
 pub below_falls : (r : Bytes) → check r ≡ accepted → (s : code.State) → Entered r s → (held : List ℕ) (m : ℕ) → Chooses r s held m → (c : code.State) → Below r s m c
@@ -365,32 +380,28 @@ below_falls r ok s E held m C c B =
 
 -- ---- the branch of a state
 
-module _ (r : Bytes) (at touch words : List ℕ) (matches : ℕ) (S : Searched r at touch words matches) (s : code.State) (E : Entered r s) (masks : List ℕ) (largest first : ℕ) (T : Told (pairs r) (state_of s).pieces s.next masks largest first) where
+module _ (r : Bytes) (ok : check r ≡ accepted) (s : code.State) (E : Entered r s) (masks : List ℕ) (largest first : ℕ) (T : Told (pairs r) (state_of s).pieces s.next masks largest first) where
   abbrev ns : List ℕ
   ns = removable r (pairs r) (state_of s).pieces s.next
 
   pub told_few : largest ≤ 32
-  told_few = omega (arith, T.largest r, max_le (size_of (pairs r)) ns 32 (λ m i. size_most r S.ok m (removable_mem r (pairs r) (state_of s).pieces s.next m i).is))
+  told_few = omega (arith, T.largest r, max_le (size_of (pairs r)) ns 32 (λ m i. size_most r ok m (removable_mem r (pairs r) (state_of s).pieces s.next m i).is))
 
   pub told_within : (k : ℕ) → 2 ≤ k → k ≤ largest → Sub (get_or masks k 0) (get_or masks 2 0)
-  told_within k a b = rw (T.masked r k (omega (arith, told_few)), T.masked r 2 (omega arith)) (mask_within r S.ok (pairs r) (table_laws r S.ok) (state_of s).pieces s.next k)
+  told_within k a b = rw (T.masked r k (omega (arith, told_few)), T.masked r 2 (omega arith)) (mask_within r ok (pairs r) (table_laws r ok) (state_of s).pieces s.next k)
 
   -- what is tried, from the first removable match on
-  pub told_tries : (bounds best least : ℕ) → least ≡ least_tried bounds (λ k. get_or masks k 0) (state_of s).pieces s.index best largest
-      → (setting : Setting) (room : ℕ) → setting.bounds ≡ bounds → tried r (pairs r) setting room (state_of s) ns best ≡ tried_from r (pairs r) (state_of s).pieces least first
-  told_tries bounds best least e setting room q =
-      let f = least_masks bounds (λ k. get_or masks k 0) (mask_of r (pairs r) ns) (state_of s).pieces s.index best largest (T.masked r 2 (omega arith)) (λ k a b. T.masked r k (omega (arith, told_few))) in
-      let g : least ≡ least_tried setting.bounds (mask_of r (pairs r) ns) (state_of s).pieces s.index best (max_of (size_of (pairs r)) ns) = rw (q, ← T.largest r) (e ∙ f) in
-      tried_is r (pairs r) setting room (state_of s) ns best least g (λ m i. size_least r S.ok m (removable_mem r (pairs r) (state_of s).pieces s.next m i).is)
+  pub told_tries : (edges : Bool) (best least : ℕ) → least ≡ least_tried edges (λ k. get_or masks k 0) (state_of s).pieces s.index best largest
+      → (setting : Setting) (room : ℕ) → has_matchable_edges setting ≡ edges → tried r (pairs r) setting room (state_of s) ns best ≡ tried_from r (pairs r) (state_of s).pieces least first
+  told_tries edges best least e setting room q =
+      let f = least_masks edges (λ k. get_or masks k 0) (mask_of r (pairs r) ns) (state_of s).pieces s.index best largest (T.masked r 2 (omega arith)) (λ k a b. T.masked r k (omega (arith, told_few))) in
+      let g : least ≡ least_tried (has_matchable_edges setting) (mask_of r (pairs r) ns) (state_of s).pieces s.index best (max_of (size_of (pairs r)) ns) = rw (q, ← T.largest r) (e ∙ f) in
+      tried_is r (pairs r) setting room (state_of s) ns best least g (λ m i. size_least r ok m (removable_mem r (pairs r) (state_of s).pieces s.next m i).is)
       ∙ ap (filter (λ m. leb least (size_of (pairs r) m))) (sym (T.same r))
 
-  owned : Owned r touch (state_of s).pieces
-  owned = record { few = few r S.ok; words = S.touches; own = pieces_own r S.ok (state_of s) E.fine }
-
-  -- what is kept in front is what the state holds
-  pub told_holds : (k : ℕ) (now old pieces : List ℕ) → pieces ≡ (state_of s).pieces
-      → ((bytes : Bytes) (ms : List Pair) → Owned bytes touch pieces → (k ≡ length (keep bytes ms (get_or masks 2 0) pieces)) × (now ≡ keep bytes ms (get_or masks 2 0) pieces ++ drop k old)) → take k now ≡ held_of r (pairs r) (state_of s)
-  told_holds k now old pieces e f =
-      let q = f r (pairs r) (rw e owned) in
-      let h : keep r (pairs r) (get_or masks 2 0) pieces ≡ held_of r (pairs r) (state_of s) = rw (e, T.masked r 2 (omega arith)) in
-      ap (take k) q.1 ∙ take_at (keep r (pairs r) (get_or masks 2 0) pieces) (drop k old) k (sym q.0) ∙ h
+  -- what is kept is what the state holds
+  pub told_holds : (touch : List ℕ) → touch ≡ touching_words r → (held : List ℕ)
+      → ((bytes : Bytes) (ms : List Pair) → Owned bytes touch (state_of s).pieces → held ≡ keep bytes ms (get_or masks 2 0) (state_of s).pieces) → held ≡ held_of r (pairs r) (state_of s)
+  told_holds touch touches held f =
+      f r (pairs r) (record { few = few r ok; words = touches; own = pieces_own r ok (state_of s) E.fine })
+      ∙ ap (λ (k : ℕ). keep r (pairs r) k (state_of s).pieces) (T.masked r 2 (omega arith))

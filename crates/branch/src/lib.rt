@@ -1,39 +1,34 @@
 #![tactic(auto)]
 // The removals of a state that are tried, and the state after each (src/state.rs, `recurse_index_search` of src/assembly.rs).
-ghost use Rattle.std.specs.Prelude.{◌≡◌, ◌||◌, List, ℕ, ◌≤◌, ◌<◌, length, get_or, eqb};
-ghost use Rattle.bitset.specs.Bits.{Sub};
+ghost use Rattle.std.specs.Prelude.{◌≡◌, List, ℕ, ◌≤◌, ◌<◌, length, get_or};
+ghost use Rattle.bitset.specs.Bits.{Sub, unions};
 ghost use Rattle.molecule.specs.Lists.{Bytes};
 ghost use Rattle.matches.specs.Table.{Pair};
 ghost use Rattle.matches.specs.Laws.{Laws};
-ghost use Rattle.state.specs.Inner.Scan.{Scanning, Told};
-ghost use Rattle.branch.specs.Inner.Entered.{Searched, Entered};
-ghost use Rattle.branch.specs.Inner.Branching.{least_tried, Passes, Branched, Next, Chooses, Below};
+ghost use Rattle.state.specs.Inner.Scan.{rows_of, Told};
+ghost use Rattle.branch.specs.Inner.Entered.{Entered};
+ghost use Rattle.branch.specs.Inner.Branching.{least_tried, Passes, Branched, Chooses, Below};
 
-use state::scan::Scanned;
+use arrayvec::ArrayVec;
+use searched::Searched;
+use state::scan::{Owners, Rows, Scanned};
 use state::{State, scan};
 
-// What the removals of a state are tried from: for each bond the piece that has it, and all bonds in pieces; the pieces held, so many; the least
-// size tried; the number of the first removable match.
-#[derive(Clone, Copy, Debug, PartialEq, Eq)]
-pub struct Branch {
-    pub own: [u64; 64],
-    pub all: u64,
-    pub held: [u64; 32],
-    pub count: usize,
+pub mod removals;
+pub mod searched;
+
+// What the removals of a state are tried from: its pieces; the pieces held; the least size tried; where the removable matches begin.
+#[derive(Clone, Drop)]
+pub struct Branch<'a> {
+    pub owners: Owners<'a>,
+    pub held: ArrayVec<u64, 32>,
     pub least: u64,
     pub first: usize,
 }
 
-// Whether bounds are this one, or both.
-pub fn has(bounds: u32, bound: u32) -> bool
-    ensures { result ≡ (eqb bounds bound || eqb bounds 3) }
-{
-    bounds == bound || bounds == 3
-}
-
-// The least size tried: 2 with MatchableEdges off.
+// The least size tried: 2 with MatchableEdges off. Pieces and index go one by one, as the bound takes them.
 fn least_tried(
-    bounds: u32,
+    edges: bool,
     masks: &[u64],
     pieces: &[u64],
     index: u32,
@@ -42,117 +37,68 @@ fn least_tried(
 ) -> u64
     requires { (largest < length masks.now) × (length pieces.now ≤ 32) × (best ≤ 64) × (largest ≤ 64) × ((k : ℕ) → 2 ≤ k → k ≤ largest
         → Sub (get_or masks.now k 0) (get_or masks.now 2 0)) }
-    ensures { result ≡ least_tried bounds (λ k. get_or masks.now k 0) pieces.now index best largest }
+    ensures { result ≡ least_tried edges (λ k. get_or masks.now k 0) pieces.now index best largest }
 {
-    if has(bounds, 2) {
+    if edges {
         u64::from(bounds::least_size(masks, pieces, index, best, largest))
     } else {
         2
     }
 }
 
-// Where the matches begin, from a number on, that are not too large for the pieces, whose union is all: their two fragments are no more bonds than
-// these. Along the table, which has four words a match, sizes never grow.
-fn first_fitting(pairs: &[u64], from: usize, matches: usize, all: u64) -> usize
-    requires { (from ≤ matches) × ((ms : List Pair) × (pieces : List ℕ) × (own : List ℕ) × Scanning pairs.now ms pieces own all × (matches ≡ length ms)) }
-    ensures { (bytes : Bytes) (ms : List Pair) (pieces own : List ℕ) → Laws bytes ms → Scanning pairs.now ms pieces own all
-        → matches ≡ length ms → Passes ms pieces from result }
+// Where the matches begin, from a number on, that are not too large for pieces whose union is all: their two fragments have no more bonds than
+// these. Along the table sizes never grow. A place and no Option, as partition_point answers; it stays beside the rows, as scan.rt of `state` says.
+fn first_fitting(rows: &Rows, from: usize, all: u64) -> usize
+    requires { from ≤ length rows.now.words.now }
+    ensures within { result ≤ length rows.now.words.now }
+    ensures passes { (bytes : Bytes) (ms : List Pair) (pieces : List ℕ) → Laws bytes ms → rows.now.words.now ≡ rows_of ms
+        → all ≡ unions (λ p. p) pieces → Passes ms pieces from result }
 {
     let half = u64::from(bitset::size(all)) / 2;
-    let (rows, _) = pairs.as_chunks::<4>();
-    from + rows[from..matches].partition_point(|row| half < row[3])
+    from + rows.words[from..].partition_point(|row| half < row[3])
 }
 
-// The bonds in the removable matches from .. matches of each size go to masks; those too large are passed over at once.
-fn masks(
-    pairs: &[u64],
-    from: usize,
-    matches: usize,
-    own: &[u64; 64],
-    all: u64,
-    masks: &mut [u64],
-) -> Scanned
-    requires { (length masks.old ≡ 33) × (from ≤ matches) × ((bytes : Bytes) × (ms : List Pair) × (pieces : List ℕ) × Laws bytes ms
-        × Scanning pairs.now ms pieces own.now all × (matches ≡ length ms)) }
-    ensures long { length masks.new ≡ 33 }
-    ensures told { (bytes : Bytes) (ms : List Pair) (pieces : List ℕ) → Laws bytes ms
-        → Scanning pairs.now ms pieces own.now all → matches ≡ length ms
-        → Told ms pieces from masks.new result.largest result.first }
+// The bonds in the removable matches from a number on of each size go to masks; those too large are passed over at once.
+fn masks(rows: &Rows, from: usize, owners: &Owners, masks: &mut [u64; 33]) -> Scanned
+    requires { from ≤ length rows.now.words.now }
+    ensures { (bytes : Bytes) (ms : List Pair) → Laws bytes ms → rows.now.words.now ≡ rows_of ms
+        → Told ms owners.now.pieces.now from masks.new result.largest result.first }
 {
-    let start = first_fitting(pairs, from, matches, all);
-    scan::masks(pairs, start, matches, own, all, masks)
+    let start = first_fitting(rows, from, owners.all);
+    scan::masks(rows, start, owners, masks)
 }
 
-// Lets go, and finds which sizes are tried and from where on.
-pub fn branch_of(
-    touch: &[u64; 64],
-    pairs: &[u64],
-    matches: usize,
-    bounds: u32,
-    s: State,
-    best: u32,
-) -> Branch
-    requires { (best ≤ 64) × ((bytes : Bytes) × (at : List ℕ) × Searched bytes at touch.now pairs.now matches × Entered bytes s) }
-    ensures { (bytes : Bytes) (at : List ℕ) → Searched bytes at touch.now pairs.now matches → Entered bytes s
-        → Branched bytes pairs.now bounds s best result }
+// Lets go, and finds which sizes are tried and from where on. That the state may be entered stays a clause, here and in the search: a struct for it
+// would be made of the same references at each call.
+pub fn branch_of<'a>(searched: &Searched, s: &'a State, best: u32) -> Branch<'a>
+    requires { (best ≤ 64) × Entered searched.now.molecule.now.bytes.now s.now }
+    ensures { Branched searched.now.molecule.now.bytes.now searched.now.setting s.now best result }
 {
-    let pieces = &s.pieces[..s.count];
-    let own = scan::owners(pieces);
-    let all = scan::whole(pieces);
+    let owners = Owners::of(&s.pieces);
     let mut masks = [0u64; 33];
-    let scanned = crate::masks(pairs, s.next, matches, &own, all, &mut masks);
-    let mut held = [0u64; 32];
-    let count = state::keep(touch, pieces, masks[2], &mut held);
-    let least = least_tried(bounds, &masks, pieces, s.index, best, scanned.largest);
+    let scanned = crate::masks(&searched.rows, s.next, &owners, &mut masks);
+    let mut held = ArrayVec::new();
+    state::keep(&searched.molecule.touch, &s.pieces, masks[2], &mut held);
+    let edges = searched.setting.has_matchable_edges();
+    let least = least_tried(edges, &masks, &s.pieces, s.index, best, scanned.largest);
     Branch {
-        own,
-        all,
+        owners,
         held,
-        count,
         least,
         first: scanned.first,
     }
 }
 
-// The first match from a number on that is removable and of the least size or more; the number of the matches where there is none. Along the table
-// sizes never grow.
-pub fn next(
-    pairs: &[u64],
-    from: usize,
-    matches: usize,
-    own: &[u64; 64],
-    all: u64,
-    least: u64,
-) -> usize
-    requires { (from ≤ matches) × ((ms : List Pair) × (pieces : List ℕ) × Scanning pairs.now ms pieces own.now all × (matches ≡ length ms)) }
-    ensures { (bytes : Bytes) (ms : List Pair) (pieces : List ℕ) → Laws bytes ms
-        → Scanning pairs.now ms pieces own.now all → matches ≡ length ms → Next bytes ms pieces least from result }
-{
-    for i in from..matches {
-        if pairs[4 * i + 3] < least {
-            return matches;
-        }
-        if scan::is_removable(pairs, i, own, all) {
-            return i;
-        }
-    }
-    matches
-}
-
 // The state after match m is removed.
-pub fn below(touch: &[u64; 64], pairs: &[u64], s: State, held: &[u64], m: usize) -> State
-    requires { (bytes : Bytes) × (at : List ℕ) × (matches : ℕ) × Searched bytes at touch.now pairs.now matches × Entered bytes s
-        × Chooses bytes s held.now m }
-    ensures { (bytes : Bytes) (at : List ℕ) (matches : ℕ) → Searched bytes at touch.now pairs.now matches
-        → Entered bytes s → Chooses bytes s held.now m → Below bytes s m result }
+pub fn below(searched: &Searched, s: &State, held: &[u64], m: usize) -> State
+    requires { Entered searched.now.molecule.now.bytes.now s.now × Chooses searched.now.molecule.now.bytes.now s.now held.now m }
+    ensures { Below searched.now.molecule.now.bytes.now s.now m result }
 {
     state::child(
-        touch,
+        &searched.molecule.touch,
         s,
         held,
         m,
-        pairs[4 * m],
-        pairs[4 * m + 2],
-        pairs[4 * m + 3] as u32,
+        &searched.rows.words[m],
     )
 }

@@ -1,5 +1,5 @@
 -- The search's definition one turn at a time: where entering a state leads, and what is found after each child. Assumes nothing, but where a state is entered that the record is accepted.
-use Rattle.std.proofs.Common.{Option, Result, Ok, Err, ◌≡◌, refl, sym, ap, subst, ◌∙◌, ◌⊎◌, inl, inr, ◌≢◌, Bool, true, false, ◌||◌, List, [], ◌∷◌, ℕ, zero, suc, ◌+◌, ◌-◌, ◌/◌, ◌≤◌, ◌<◌, min, arith, ltb, leb, eqb, length, get_or, take, lt-ltb, le-ltb, eq-eqb, ne_eqb}
+use Rattle.std.proofs.Common.{Option, Result, Ok, Err, ◌≡◌, refl, sym, ap, subst, ◌∙◌, ◌⊎◌, inl, inr, Bool, true, false, List, [], ◌∷◌, ℕ, zero, suc, ◌+◌, ◌-◌, ◌≤◌, ◌<◌, min, arith, ltb, leb, length, get_or, lt-ltb, le-ltb}
 use mathlib.Core.List.Memᴰ.{eq_of_singleton as mem_one}
 use mathlib.Core.List.{Memᴰ as Mem}
 use Rattle.bitset.specs.Bits.{size}
@@ -14,7 +14,7 @@ use Rattle.bounds.specs.Numbers.{sum_of, ceil_log2}
 use Rattle.bounds.specs.Bounds.{int_bound}
 use Rattle.matches.specs.Table.{Pair, pairs}
 use Rattle.matches.proofs.Laws.{table_laws}
-use Rattle.search.specs.Setting.{Setting, has_memo, memo_room}
+use Rattle.search.specs.Setting.{Setting, has_int, has_memo, memo_room}
 use Rattle.search.specs.State.{State, root, removable, child}
 use Rattle.search.specs.Memo.{Entry, Memo, goes, stopped, full, remember, entry_of, key_of}
 use Rattle.search.specs.Search.{Run, Outcome, answers, halts, lower, int_stops, ask, tried, children, branch, counted, visit, search}
@@ -22,7 +22,6 @@ use Rattle.search.specs.Inner.Claims.{Fine, held_of}
 use Rattle.search.proofs.Parts.{some}
 use Rattle.search.proofs.Least.{ask_off}
 use Rattle.search.proofs.Ends.{root_fine}
-use Rattle.molecule.specs.declared.tree.Molecule.{Molecule}
 use Rattle.molecule.proofs.Whole.{all_connected}
 use Rattle.state.specs.declared.State as code
 use Rattle.recurse.specs.declared.visit.Run as code_run
@@ -35,21 +34,27 @@ use Rattle.memoize.specs.declared.Full.{Full}
 use Rattle.state.specs.Inner.Views.{state_of}
 use Rattle.desk.specs.Inner.Cached.{Cached}
 use Rattle.memoize.specs.Inner.Stored.{Fragments, Stored, entry_with, MemoAnswers}
-use Rattle.branch.specs.Inner.Entered.{Searched, Entered}
-use Rattle.recurse.specs.Inner.Follows.{run_of, halted_as, Answered, Follows, Visited, Searches, Tabled, Counted, Opened, Stopped as StoppedState, Ended, gate_of, Gated, OwnAnswer, better_of, Lowered}
-use Rattle.branch.specs.Inner.Branching.{tried_from, Turn, Next, Chooses, Below}
-use Rattle.branch.proofs.Branching.{pieces_own, next_take, next_end, below_falls}
+use Rattle.branch.specs.Inner.Entered.{Entered}
+use Rattle.branch.specs.Inner.Trying.{tried_from, FirstIs, First}
+use Rattle.branch.specs.declared.Branch.{Branch}
+use Rattle.branch.specs.declared.removals.Removals.{Removals}
+use Rattle.state.specs.declared.scan.Rows.{Rows}
+use Rattle.state.specs.declared.scan.Owners.{Owners}
+use Rattle.state.specs.Inner.Scan.{rows_of}
+use Rattle.recurse.specs.Inner.Follows.{run_of, halted_as, Answered, Follows, Visited, Searches, Counted, Opened, Stopped as StoppedState, Ended, gate_of, Gated, OwnAnswer, better_of, Lowered}
+use Rattle.branch.specs.Inner.Branching.{Branched, Tries, Chooses, Below}
+use Rattle.branch.proofs.Branching.{pieces_own, below_falls}
 
 -- ---- Int
 
-module _ (r : Bytes) (ms : List Pair) (setting : Setting) (room : ℕ) (s : State) (best bounds : ℕ) (e : setting.bounds ≡ bounds) where
-  pub stops_off : (eqb bounds 1 || eqb bounds 3) ≡ false → false ≡ int_stops r ms setting room s best
+module _ (r : Bytes) (ms : List Pair) (setting : Setting) (room : ℕ) (s : State) (best : ℕ) where
+  pub stops_off : has_int setting ≡ false → false ≡ int_stops r ms setting room s best
   unfolding int_stops
-  stops_off h = rw (e, h)
+  stops_off h = rw h
 
-  pub stops_on : (eqb bounds 1 || eqb bounds 3) ≡ true → (j : ℕ) → j ≡ int_bound ceil_log2 s.pieces s.largest → leb (best + j) s.index ≡ int_stops r ms setting room s best
+  pub stops_on : has_int setting ≡ true → (j : ℕ) → j ≡ int_bound ceil_log2 s.pieces s.largest → leb (best + j) s.index ≡ int_stops r ms setting room s best
   unfolding int_stops
-  stops_on h j q = rw (e, h, q)
+  stops_on h j q = rw (h, q)
 
 -- ---- entering
 
@@ -111,13 +116,13 @@ module _ (r : Bytes) (setting : Setting) (room : ℕ) (s : code.State) (run : co
     stops_int e words w = record { counted = k; stored = w; stops = λ f. entered f ∙ int_stopped r (pairs r) setting room (state_of s) (run_of next m) _ (int_at e) }
 
     module _ (on : int_stops r (pairs r) setting room (state_of s) run.best ≡ false) where
-      pub goes_plain : setting.memo ≢ 1 → (words : List ℕ) → Stored r words next.entries m → Opened r setting room s run m words next
+      pub goes_plain : has_memo setting ≡ false → (words : List ℕ) → Stored r words next.entries m → Opened r setting room s run m words next
       goes_plain h words w = record {
         counted = k;
         memo = m;
         stored = w;
         goes = λ f. entered f
-            ∙ memo_goes r (pairs r) setting room (state_of s) (run_of next m) _ (int_at on) m (ask_off r (pairs r) setting room (ne_eqb setting.memo 1 h) (state_of s) m);
+            ∙ memo_goes r (pairs r) setting room (state_of s) (run_of next m) _ (int_at on) m (ask_off r (pairs r) setting room h (state_of s) m);
       }
 
       module _ (old now : List ℕ) (st : Stored r old next.entries m) where
@@ -136,10 +141,10 @@ module _ (r : Bytes) (setting : Setting) (room : ℕ) (s : code.State) (run : co
         })
         gated_by a full q h = rw h.0 (record { ends = λ f. entered f ∙ memo_full r (pairs r) setting room (state_of s) (run_of next m) _ (int_at on) q })
 
-        pub gated_memo : setting.memo ≡ 1 → (a : Result (Option ℕ) Full) (pieces removals : List ℕ) → pieces ≡ (state_of s).pieces → removals ≡ (state_of s).removals
+        pub gated_memo : has_memo setting ≡ true → (a : Result (Option ℕ) Full) (pieces removals : List ℕ) → pieces ≡ (state_of s).pieces → removals ≡ (state_of s).removals
             → MemoAnswers r old now a (remember room (entry_with r pieces s.index removals) m) → Gated r setting room s run m now (gate_of a next)
         gated_memo memo a pieces removals p q h =
-            gated_by a _ (ask_on r (pairs r) setting room (state_of s) (run_of run m) m (eq-eqb setting.memo 1 memo)) (rw (← p, ← q) h)
+            gated_by a _ (ask_on r (pairs r) setting room (state_of s) (run_of run m) m memo) (rw (← p, ← q) h)
 
 -- the pieces of a state are fragments
 pub fragments_of : (r : Bytes) (s : code.State) → check r ≡ accepted → Entered r s → Fragments r (state_of s).pieces
@@ -148,31 +153,41 @@ fragments_of r s ok E = λ j h. record {
   connected = E.connected (get_or (state_of s).pieces j 0) (at_mem 0 (state_of s).pieces j h);
 }
 
--- what branching is given of a molecule and the words of its matches
-pub searched_of : (m : Molecule) {words : List ℕ} → Tabled m.bytes.now words → Searched m.bytes.now m.at m.touch words (length words / 4)
-searched_of m w = record {
-  ok = m.accepted;
-  ends = m.bonds_at;
-  touches = m.touching;
-  recorded = w.recorded;
-  count = omega (arith, w.long);
-  room = omega arith;
-  few = omega (arith, w.long, w.few);
-}
+-- ---- the removals of a branch
+
+-- start is where they begin
+module _ {r : Bytes} (ok : check r ≡ accepted) {setting : Setting} {s : code.State} {best : ℕ} {b : Branch} (B : Branched r setting s best b) {rows : Rows} (listed : rows.words.now ≡ rows_of (pairs r))
+    {items start : Removals} (begins : start ≡ items) (is : (items.rows.now ≡ rows) × (items.owners.now ≡ b.owners) × (items.least ≡ b.least) × (items.from ≡ b.first)) where
+  -- what is tried is what they are from the start on
+  pub start_tries : (room : ℕ) → tried r (pairs r) setting room (state_of s) (removable r (pairs r) (state_of s).pieces s.next) best ≡ tried_from r (pairs r) (state_of s).pieces start.least start.from
+  start_tries room = rw (begins, is.2, is.3) (B.tries setting room refl)
+
+  -- the next of those left
+  pub turn_first : {left next : Removals} {m : Option ℕ} → Tries left m next → left.rows.now ≡ start.rows.now → left.owners.now ≡ start.owners.now → left.least ≡ start.least
+      → First r (pairs r) (state_of s).pieces start.least left.from m
+  turn_first {left} T e o l =
+      let w : left.rows.now.words.now ≡ rows_of (pairs r) = ap (λ (x : Rows). x.words.now) (e ∙ ap (λ (x : Removals). x.rows.now) begins ∙ is.0) ∙ listed in
+      let p : left.owners.now.pieces.now ≡ (state_of s).pieces = ap (λ (x : Owners). x.pieces.now) (o ∙ ap (λ (x : Removals). x.owners.now) begins ∙ is.1) ∙ B.pieces in
+      rw (p, l) at (T.first r (pairs r) (table_laws r ok) w)
+
+  -- it is removable from the pieces held
+  pub turn_chooses : {least n m : ℕ} → FirstIs r (pairs r) (state_of s).pieces least n m → start.from ≤ n → (held : List ℕ) → held ≡ b.held.items → Chooses r s held m
+  turn_chooses N a held h =
+      record { after = omega (arith, B.after, is.3, ap (λ (x : Removals). x.from) begins, a, N.after); within = N.within; removes = N.removes; keeps = h ∙ B.held }
 
 -- ---- the loop over the removals
 
--- the children by the removals from number m on, with what is found so far
+-- the children by the removals from number n on, with what is found so far
 abbrev pub whole_of : Bytes → Setting → ℕ → ℕ → code.State → ℕ → ℕ → Found → List Entry → Outcome
-whole_of r setting room f s least m found memo =
-    children r (pairs r) setting room (visit r (pairs r) setting room f) (state_of s) (held_of r (pairs r) (state_of s)) (tried_from r (pairs r) (state_of s).pieces least m)
-    found.index (take found.length found.trail) (run_of found.run memo)
+whole_of r setting room f s least n found memo =
+    children r (pairs r) setting room (visit r (pairs r) setting room f) (state_of s) (held_of r (pairs r) (state_of s)) (tried_from r (pairs r) (state_of s).pieces least n)
+    found.index found.trail.items (run_of found.run memo)
 
 -- they give the whole, with the memo that the words store
-pub record Looping (r : Bytes) (setting : Setting) (room f : ℕ) (s : code.State) (least m : ℕ) (found : Found) (words : List ℕ) (whole : Outcome) : Type 0 where
+pub record Looping (r : Bytes) (setting : Setting) (room f : ℕ) (s : code.State) (least n : ℕ) (found : Found) (words : List ℕ) (whole : Outcome) : Type 0 where
   pub memo : List Entry
   pub stored : Stored r words found.run.entries memo
-  pub same : whole ≡ whole_of r setting room f s least m found memo
+  pub same : whole ≡ whole_of r setting room f s least n found memo
 
 -- one turn of the children
 module _ (r : Bytes) (ms : List Pair) (setting : Setting) (room : ℕ) (enter : State → Run → Outcome) (s : State) (held : List ℕ) (m : ℕ) (ns : List ℕ) (answer : ℕ) (trail : List ℕ) (run : Run) where
@@ -197,10 +212,10 @@ unfolding children
 children_none r ms setting room enter s held ns answer trail run e = rw e
 
 -- match m is taken, to state c, which is entered with what is found so far and has the outcome g
-module _ (r : Bytes) (ok : check r ≡ accepted) (setting : Setting) (room f : ℕ) (s : code.State) (E : Entered r s) (least m : ℕ) (found : Found) (words : List ℕ) (whole : Outcome)
-    (L : Looping r setting room f s least m found words whole) (enough : sum_of size (state_of s).pieces ≤ suc f) (T : Turn (pairs r) (state_of s).pieces least m) (held : List ℕ) (C : Chooses r s held m)
+module _ (r : Bytes) (ok : check r ≡ accepted) (setting : Setting) (room f : ℕ) (s : code.State) (E : Entered r s) (least n m : ℕ) (found : Found) (words : List ℕ) (whole : Outcome)
+    (L : Looping r setting room f s least n found words whole) (enough : sum_of size (state_of s).pieces ≤ suc f) (T : FirstIs r (pairs r) (state_of s).pieces least n m) (held : List ℕ) (C : Chooses r s held m)
     (c : code.State) (B : Below r s m c) (g : Result Found Halt) (now : List ℕ)
-    (W : (n : List Entry) → Stored r words found.run.entries n → Visited r setting room c found.run n g now) where
+    (W : (k : List Entry) → Stored r words found.run.entries k → Visited r setting room c found.run k g now) where
   -- the child of the definition, entered one level down
   abbrev below : Outcome
   below = visit r (pairs r) setting room f (child r (pairs r) (state_of s) (held_of r (pairs r) (state_of s)) m) (run_of found.run L.memo)
@@ -213,45 +228,40 @@ module _ (r : Bytes) (ok : check r ≡ accepted) (setting : Setting) (room f : �
       (W L.memo L.stored f (omega (arith, z.0)) (omega (arith, z.0, z.1)))
 
   abbrev rest : List ℕ
-  rest = tried_from r (pairs r) (state_of s).pieces least (m + 1)
+  rest = tried_from r (pairs r) (state_of s).pieces least (suc m)
 
   whole_is : whole ≡ children r (pairs r) setting room (visit r (pairs r) setting room f) (state_of s) (held_of r (pairs r) (state_of s)) (m ∷ rest)
-      found.index (take found.length found.trail) (run_of found.run L.memo)
+      found.index found.trail.items (run_of found.run L.memo)
   whole_is =
       L.same
       ∙ ap (λ (ns : List ℕ). children r (pairs r) setting room (visit r (pairs r) setting room f) (state_of s) (held_of r (pairs r) (state_of s)) ns
-      found.index (take found.length found.trail) (run_of found.run L.memo))
-      (next_take r (pairs r) (table_laws r ok) (state_of s).pieces least m C.within T)
+      found.index found.trail.items (run_of found.run L.memo))
+      T.others
 
   pub loop_halts : (h : Halt) → g ≡ Err h → whole ≡ halted_as h
   loop_halts h e =
       let w : Follows r found.run.best (Err h) now below = rw e at taken in
       whole_is ∙ turn_halts r (pairs r) setting room _ (state_of s) _ m rest _ _ _ h w
 
-  pub loop_answers : (o : Found) → g ≡ Ok o → (k : ℕ) → Next r (pairs r) (state_of s).pieces least (m + 1) k → Looping r setting room f s least k (better_of found o) now whole
-  loop_answers o e k N = go (two (ltb o.index found.index))
+  pub loop_answers : (o : Found) → g ≡ Ok o → Looping r setting room f s least (suc m) (better_of found o) now whole
+  loop_answers o e = go (two (ltb o.index found.index))
     where
       w : Answered r found.run.best o now below
       w = rw e at taken
 
-      on : (x : Found) → Stored r now x.run.entries w.memo → whole ≡ whole_of r setting room f s least (m + 1) x w.memo → Looping r setting room f s least k x now whole
-      on x st q = record {
-        memo = w.memo;
-        stored = st;
-        same = q ∙ ap (λ (ns : List ℕ). children r (pairs r) setting room (visit r (pairs r) setting room f) (state_of s) (held_of r (pairs r) (state_of s)) ns
-            x.index (take x.length x.trail) (run_of x.run w.memo)) N.same;
-      }
+      on : (x : Found) → Stored r now x.run.entries w.memo → whole ≡ whole_of r setting room f s least (suc m) x w.memo → Looping r setting room f s least (suc m) x now whole
+      on x st q = record { memo = w.memo; stored = st; same = q }
 
-      go : (ltb o.index found.index ≡ true) ⊎ (ltb o.index found.index ≡ false) → Looping r setting room f s least k (better_of found o) now whole
+      go : (ltb o.index found.index ≡ true) ⊎ (ltb o.index found.index ≡ false) → Looping r setting room f s least (suc m) (better_of found o) now whole
       go (inl l) = rw l (on o w.stored (whole_is ∙ turn_less r (pairs r) setting room _ (state_of s) _ m rest _ _ _ o.index _ _ w.is l))
       go (inr l) = rw l (on _ w.stored (whole_is ∙ turn_more r (pairs r) setting room _ (state_of s) _ m rest _ _ _ o.index _ _ w.is l))
 
 -- what is found after an answer
 found_next : (r : Bytes) (setting : Setting) (room : ℕ) (c : code.State) (found o : Found) (words now : List ℕ)
     → ((n : List Entry) → Stored r words found.run.entries n → Visited r setting room c found.run n (Ok o) now)
-    → (n : List Entry) → Stored r words found.run.entries n → found.length ≤ 32
-    → ((better_of found o).length ≤ 32) × ((better_of found o).run.best ≤ found.run.best) × ((n : List Entry) × Stored r now (better_of found o).run.entries n)
-found_next r setting room c found o words now W n st l = go (two (ltb o.index found.index))
+    → (n : List Entry) → Stored r words found.run.entries n
+    → ((better_of found o).run.best ≤ found.run.best) × ((n : List Entry) × Stored r now (better_of found o).run.entries n)
+found_next r setting room c found o words now W n st = go (two (ltb o.index found.index))
   where
     f : ℕ
     f = suc (sum_of size (state_of c).pieces)
@@ -260,87 +270,76 @@ found_next r setting room c found o words now W n st l = go (two (ltb o.index fo
     w = W n st f (omega arith) (omega arith)
 
     go : (ltb o.index found.index ≡ true) ⊎ (ltb o.index found.index ≡ false)
-        → ((better_of found o).length ≤ 32) × ((better_of found o).run.best ≤ found.run.best) × ((n : List Entry) × Stored r now (better_of found o).run.entries n)
-    go (inl q) = rw q (w.short, w.low, (w.memo, w.stored))
-    go (inr q) = rw q (l, w.low, (w.memo, w.stored))
+        → ((better_of found o).run.best ≤ found.run.best) × ((n : List Entry) × Stored r now (better_of found o).run.entries n)
+    go (inl q) = rw q (w.low, (w.memo, w.stored))
+    go (inr q) = rw q (w.low, (w.memo, w.stored))
 
 -- ---- what the loop keeps
 
--- with ₀ as at its start: the next match to try is m, and the loop gives the whole, in a memo with as much room
+-- with ₀ as at its start: what is left to try begins at number n, and the loop gives the whole, in a memo with as much room
 pub record Kept (r : Bytes) (setting : Setting) (s : code.State) (least first : ℕ) (found₀ : Found) (memo₀ desk₀ : List ℕ)
-    (m : ℕ) (found : Found) (memo desk : List ℕ) : Type 0 where
-  pub turn : Turn (pairs r) (state_of s).pieces least m
-  pub after : first ≤ m
-  pub short : found.length ≤ 32
+    (n : ℕ) (found : Found) (memo desk : List ℕ) : Type 0 where
+  pub after : first ≤ n
   pub low : found.run.best ≤ found₀.run.best
   pub memos : length memo ≡ length memo₀
   pub desks : length desk ≡ length desk₀
   pub cached : Cached r desk
-  pub stored : (n : List Entry) × Stored r memo found.run.entries n
-  pub loops : (room : ℕ) → room ≡ memo_room (length memo₀) → (n : List Entry) → Stored r memo₀ found₀.run.entries n → (f : ℕ) → sum_of size (state_of s).pieces ≤ suc f
-      → Looping r setting room f s least m found memo (whole_of r setting room f s least first found₀ n)
+  pub stored : (k : List Entry) × Stored r memo found.run.entries k
+  pub loops : (room : ℕ) → room ≡ memo_room (length memo₀) → (k : List Entry) → Stored r memo₀ found₀.run.entries k → (f : ℕ) → sum_of size (state_of s).pieces ≤ suc f
+      → Looping r setting room f s least n found memo (whole_of r setting room f s least first found₀ k)
 
 -- what the outcome carries is stored
 pub own_stored : {s : code.State} {run : code_run.Run} {o : Found} → OwnAnswer s run o → {r : Bytes} {words : List ℕ} {n : List Entry} → Stored r words run.entries n → Stored r words o.run.entries n
 own_stored w {r} {words} {n} st = subst (λ (x : code_run.Run). Stored r words x.entries n) (sym w.carried) st
 
 -- it starts with the state's own answer
-pub kept_start : {r : Bytes} {setting : Setting} {s : code.State} {run : code_run.Run} {least first m : ℕ} {found : Found} {memo desk : List ℕ}
-    → OwnAnswer s run found → Entered r s → Next r (pairs r) (state_of s).pieces least first m → Cached r desk → (n : List Entry) × Stored r memo run.entries n
-    → Kept r setting s least first found memo desk m found memo desk
-kept_start {r} {setting} {s} {run} {least = least} {found = found} {memo} w E N d st = record {
-  turn = N.turn;
-  after = N.after;
-  short = omega (arith, w.length, E.removals);
+pub kept_start : {r : Bytes} {setting : Setting} {s : code.State} {run : code_run.Run} {least first : ℕ} {found : Found} {memo desk : List ℕ}
+    → OwnAnswer s run found → Cached r desk → (k : List Entry) × Stored r memo run.entries k
+    → Kept r setting s least first found memo desk first found memo desk
+kept_start w d st = record {
+  after = omega arith;
   low = omega arith;
   memos = refl;
   desks = refl;
   cached = d;
   stored = (st.0, own_stored w st.1);
-  loops = λ room q n z f h. record {
-    memo = n;
-    stored = z;
-    same = ap (λ (ns : List ℕ). children r (pairs r) setting room (visit r (pairs r) setting room f) (state_of s) (held_of r (pairs r) (state_of s)) ns
-        found.index (take found.length found.trail) (run_of found.run n)) N.same;
-  };
+  loops = λ room q k z f h. record { memo = k; stored = z; same = refl };
 }
 
-module _ {r : Bytes} {setting : Setting} {s : code.State} {least first : ℕ} {found₀ : Found} {memo₀ desk₀ : List ℕ} {m : ℕ} {found : Found} {memo desk : List ℕ}
-    (K : Kept r setting s least first found₀ memo₀ desk₀ m found memo desk) (ok : check r ≡ accepted) where
+module _ {r : Bytes} {setting : Setting} {s : code.State} {least first : ℕ} {found₀ : Found} {memo₀ desk₀ : List ℕ} {n : ℕ} {found : Found} {memo desk : List ℕ}
+    (K : Kept r setting s least first found₀ memo₀ desk₀ n found memo desk) (ok : check r ≡ accepted) where
   -- nothing is left to try
-  pub kept_done : m ≡ length (pairs r) → (room : ℕ) → room ≡ memo_room (length memo₀) → (n : List Entry) → Stored r memo₀ found₀.run.entries n → (f : ℕ) → sum_of size (state_of s).pieces ≤ suc f
-      → (k : List Entry) × Stored r memo found.run.entries k × (whole_of r setting room f s least first found₀ n ≡ answers found.index (take found.length found.trail) (run_of found.run k))
-  kept_done e room q n st f h =
-      let L = K.loops room q n st f h in
-      (L.memo, L.stored, L.same ∙ children_none r (pairs r) setting room _ (state_of s) _ _ _ _ _ (next_end r (pairs r) (table_laws r ok) (state_of s).pieces least m e))
+  pub kept_done : tried_from r (pairs r) (state_of s).pieces least n ≡ [] → (room : ℕ) → room ≡ memo_room (length memo₀) → (k : List Entry) → Stored r memo₀ found₀.run.entries k → (f : ℕ) → sum_of size (state_of s).pieces ≤ suc f
+      → (l : List Entry) × Stored r memo found.run.entries l × (whole_of r setting room f s least first found₀ k ≡ answers found.index found.trail.items (run_of found.run l))
+  kept_done e room q k st f h =
+      let L = K.loops room q k st f h in
+      (L.memo, L.stored, L.same ∙ children_none r (pairs r) setting room _ (state_of s) _ _ _ _ _ e)
 
-  module _ (E : Entered r s) (held : List ℕ) (C : Chooses r s held m) (c : code.State) (B : Below r s m c) (g : Result Found Halt) (memo' : List ℕ)
-      (W : (n : List Entry) → Stored r memo found.run.entries n → Visited r setting (memo_room (length memo)) c found.run n g memo') where
-    roomy : (room : ℕ) → room ≡ memo_room (length memo₀) → (n : List Entry) → Stored r memo found.run.entries n → Visited r setting room c found.run n g memo'
-    roomy room q = subst (λ (x : ℕ). (n : List Entry) → Stored r memo found.run.entries n → Visited r setting x c found.run n g memo') (ap memo_room K.memos ∙ sym q) W
+  -- m is the next of those left
+  module _ (m : ℕ) (N : FirstIs r (pairs r) (state_of s).pieces least n m) (E : Entered r s) (held : List ℕ) (C : Chooses r s held m) (c : code.State) (B : Below r s m c) (g : Result Found Halt) (memo' : List ℕ)
+      (W : (k : List Entry) → Stored r memo found.run.entries k → Visited r setting (memo_room (length memo)) c found.run k g memo') where
+    roomy : (room : ℕ) → room ≡ memo_room (length memo₀) → (k : List Entry) → Stored r memo found.run.entries k → Visited r setting room c found.run k g memo'
+    roomy room q = subst (λ (x : ℕ). (k : List Entry) → Stored r memo found.run.entries k → Visited r setting x c found.run k g memo') (ap memo_room K.memos ∙ sym q) W
 
     -- the child ends the search
-    pub kept_halts : (h : Halt) → g ≡ Err h → (room : ℕ) → room ≡ memo_room (length memo₀) → (n : List Entry) → Stored r memo₀ found₀.run.entries n → (f : ℕ) → sum_of size (state_of s).pieces ≤ suc f
-        → whole_of r setting room f s least first found₀ n ≡ halted_as h
-    kept_halts e z room q n st f h = loop_halts r ok setting room f s E least m found memo _ (K.loops room q n st f h) h K.turn held C c B g memo' (roomy room q) e z
+    pub kept_halts : (h : Halt) → g ≡ Err h → (room : ℕ) → room ≡ memo_room (length memo₀) → (k : List Entry) → Stored r memo₀ found₀.run.entries k → (f : ℕ) → sum_of size (state_of s).pieces ≤ suc f
+        → whole_of r setting room f s least first found₀ k ≡ halted_as h
+    kept_halts e z room q k st f h = loop_halts r ok setting room f s E least n m found memo _ (K.loops room q k st f h) h N held C c B g memo' (roomy room q) e z
 
-    -- the child answers, and k is the next to try
-    pub kept_next : (x : Found) → g ≡ Ok x → (k : ℕ) → Next r (pairs r) (state_of s).pieces least (m + 1) k → (o : Found) → o ≡ better_of found x
+    -- the child answers, and those after m are left
+    pub kept_next : (y : Found) → g ≡ Ok y → (to : ℕ) → to ≡ suc m → (o : Found) → o ≡ better_of found y
         → (desk' : List ℕ) → Cached r desk' → length memo' ≡ length memo → length desk' ≡ length desk
-        → Kept r setting s least first found₀ memo₀ desk₀ k o memo' desk'
-    kept_next y z k N o e desk' w l1 l2 =
-        let x = found_next r setting (memo_room (length memo)) c found y memo memo' (rw z at W) K.stored.0 K.stored.1 K.short in
-        subst (λ (y : Found). Kept r setting s least first found₀ memo₀ desk₀ k y memo' desk') (sym e)
-        (record {
-          turn = N.turn;
+        → Kept r setting s least first found₀ memo₀ desk₀ to o memo' desk'
+    kept_next y z to t o e desk' w l1 l2 =
+        let x = found_next r setting (memo_room (length memo)) c found y memo memo' (rw z at W) K.stored.0 K.stored.1 in
+        rw (t, e) (record {
           after = omega (arith, N.after, K.after);
-          short = x.0;
-          low = omega (arith, x.1, K.low);
+          low = omega (arith, x.0, K.low);
           memos = l1 ∙ K.memos;
           desks = l2 ∙ K.desks;
           cached = w;
-          stored = x.2;
-          loops = λ room q n st f h. loop_answers r ok setting room f s E least m found memo _ (K.loops room q n st f h) h K.turn held C c B g memo' (roomy room q) y z k N;
+          stored = x.1;
+          loops = λ room q k st f h. loop_answers r ok setting room f s E least n m found memo _ (K.loops room q k st f h) h N held C c B g memo' (roomy room q) y z;
         })
 
 -- ---- a state's outcome
@@ -367,12 +366,11 @@ module _ (r : Bytes) (setting : Setting) (room : ℕ) (s : code.State) (run : co
   visited_ended h D = visited_by (Err h) (λ f. halted_as h) D.ends (λ f q. refl)
 
   -- a state that is stopped
-  pub visited_stopped : (next : code_run.Run) (o : Found) → StoppedState r setting room s run m words next → OwnAnswer s next o → s.removed ≤ 32
+  pub visited_stopped : (next : code_run.Run) (o : Found) → StoppedState r setting room s run m words next → OwnAnswer s next o
       → Visited r setting room s run m (Ok o) words
-  visited_stopped next o D e l = visited_by (Ok o) (λ f. answers s.index (state_of s).removals (run_of next m)) D.stops (λ f q. record {
+  visited_stopped next o D e = visited_by (Ok o) (λ f. answers s.index (state_of s).removals (run_of next m)) D.stops (λ f q. record {
     memo = m;
-    is = rw (e.index, e.length, e.trail, e.carried);
-    short = omega (arith, e.length);
+    is = rw (e.index, e.trail, e.carried);
     low = omega (arith, ap (λ (x : code_run.Run). x.best) e.carried, D.counted.best);
     stored = own_stored e D.stored;
   })
@@ -386,24 +384,23 @@ module _ (r : Bytes) (setting : Setting) (room : ℕ) (s : code.State) (run : co
         D.goes f
         ∙ ap (λ (ns : List ℕ). lower (children r (pairs r) setting room (visit r (pairs r) setting room f) (state_of s) (held_of r (pairs r) (state_of s)) ns
         s.index (state_of s).removals (run_of next D.memo))) tries
-        ∙ rw (e.index, e.length, e.trail, e.carried)
+        ∙ rw (e.index, e.trail, e.carried)
 
     pub visited_halts : (h : Halt) → ((f : ℕ) → sum_of size (state_of s).pieces ≤ suc f → whole_of r setting room f s least first found D.memo ≡ halted_as h) → (now : List ℕ)
         → Visited r setting room s run m (Err h) now
     visited_halts h e now zero a b = absurd (omega arith)
     visited_halts h e now (suc f) a b = opened_is f ∙ lower_halts _ h (e f a)
 
-    pub visited_answers : (last o : Found) (now : List ℕ) → Lowered last o → last.length ≤ 32 → last.run.best ≤ run.best
+    pub visited_answers : (last o : Found) (now : List ℕ) → Lowered last o → last.run.best ≤ run.best
         → ((f : ℕ) → sum_of size (state_of s).pieces ≤ suc f → (n : List Entry) × Stored r now last.run.entries n
-        × (whole_of r setting room f s least first found D.memo ≡ answers last.index (take last.length last.trail) (run_of last.run n)))
+        × (whole_of r setting room f s least first found D.memo ≡ answers last.index last.trail.items (run_of last.run n)))
         → Visited r setting room s run m (Ok o) now
-    visited_answers last o now w l b h zero p q = absurd (omega arith)
-    visited_answers last o now w l b h (suc f) p q =
+    visited_answers last o now w b h zero p q = absurd (omega arith)
+    visited_answers last o now w b h (suc f) p q =
         let k = h f p in
         record {
           memo = k.0;
-          is = opened_is f ∙ lower_answers _ _ _ _ k.2 ∙ rw (w.index, w.length, w.trail, w.best, w.states);
-          short = omega (arith, w.length);
+          is = opened_is f ∙ lower_answers _ _ _ _ k.2 ∙ rw (w.index, w.trail, w.best, w.states);
           low = omega (arith, w.best);
           stored = let c : o.run.entries ≡ last.run.entries = w.entries in rw c k.1;
         }
@@ -436,12 +433,10 @@ module _ (r : Bytes) (ok : check r ≡ accepted) (s : code.State) (e : state_of 
   unfolding root
   root_sum = omega (arith, size_first (bonds r))
 
-  pub root_entered : (s.count ≡ 1) × (s.removed ≡ 0) → Entered r s
-  root_entered n = record {
+  pub root_entered : Entered r s
+  root_entered = record {
     fine = subst (Fine r (pairs r)) (sym e) (root_fine r ok (pairs r) (table_laws r ok));
     connected = subst (λ (x : State). (p : ℕ) → Mem p x.pieces → Connected r p) (sym e) root_part;
-    pieces = omega (arith, n.0);
-    removals = omega (arith, n.1);
     both = subst (λ (x : State). length x.pieces + length x.removals ≤ 32) (sym e) root_both;
     after = omega (arith, ap (λ (x : State). x.next) e, root_next);
   }

@@ -7,9 +7,10 @@ ghost use Rattle.desk.specs.Inner.Cached.{Cached};
 ghost use Rattle.memoize.specs.Inner.Stored.{Stored};
 ghost use Rattle.recurse.specs.Inner.Follows.{MayEnter, MayStart, Visited, Searches, IntStops, gate_of, Gated, OwnAnswer, better_of, Lowered};
 
+use arrayvec::ArrayVec;
+use branch::searched::Searched;
 use canonize::Slate;
 use memoize::Full;
-use molecule::Molecule;
 use search::Setting;
 use state::State;
 
@@ -21,12 +22,11 @@ pub struct Run {
     pub entries: usize,
 }
 
-// An index with its trail, so many numbers, and what is carried then.
-#[derive(Clone, Copy, Debug, PartialEq, Eq)]
+// An index with its trail, and what is carried then.
+#[derive(Clone, Debug, PartialEq, Eq, Drop)]
 pub struct Found {
     pub index: u32,
-    pub trail: [u32; 32],
-    pub length: usize,
+    pub trail: ArrayVec<u32, 32>,
     pub run: Run,
 }
 
@@ -37,22 +37,22 @@ pub enum Halt {
     Memo(u32),
 }
 
-// A state that is entered goes on or is stopped, with what is carried then.
-#[derive(Clone, Copy)]
-enum Gate {
+// A state that is entered goes on or is stopped, with what is carried then. No Option: both cases carry it.
+#[derive(Clone, Copy, Debug, PartialEq, Eq)]
+pub enum Gate {
     Goes(Run),
     Stops(Run),
 }
 
 // Whether Int stops the state.
-fn int_stops(bounds: u32, s: &State, best: u32) -> bool
-    requires { (s.now.count ≤ 32) × (s.now.largest ≤ 64) }
-    ensures { IntStops bounds s.now best result }
+fn int_stops(setting: Setting, s: &State, best: u32) -> bool
+    requires { s.now.largest ≤ 64 }
+    ensures { IntStops setting s.now best result }
 {
-    if !branch::has(bounds, 1) {
+    if !setting.has_int() {
         return false;
     }
-    let j = bounds::int_bound(&s.pieces[..s.count], s.largest);
+    let j = bounds::int_bound(&s.pieces, s.largest);
     u64::from(best) + u64::from(j) <= u64::from(s.index)
 }
 
@@ -67,22 +67,23 @@ fn passed(asked: Result<Option<usize>, Full>, run: Run) -> Result<Gate, Halt>
     }
 }
 
-// Enters a state within the budget; Int or the memo may stop it.
+// Enters a state within the budget; Int or the memo may stop it. The memo, the desk and the slate stay three parameters, here and below: a struct that
+// holds them would owe in each contract a clause for each, that it is the same loan.
 fn enter(
-    molecule: &Molecule,
-    setting: Setting,
+    searched: &Searched,
     memo: &mut [u64],
     desk: &mut [u64],
     slate: &mut Slate,
     s: &State,
     run: Run,
 ) -> Result<Gate, Halt>
-    requires { Entered molecule.now.bytes.now s.now × Cached molecule.now.bytes.now desk.old × ((m : List Entry)
-        × Stored molecule.now.bytes.now memo.old run.entries m) }
-    ensures gated { (m : List Entry) → Stored molecule.now.bytes.now memo.old run.entries m
-        → Gated molecule.now.bytes.now setting (memo_room (length memo.old)) s.now run m memo.new result }
-    ensures cached { Cached molecule.now.bytes.now desk.new }
+    requires { Entered searched.now.molecule.now.bytes.now s.now × Cached searched.now.molecule.now.bytes.now desk.old
+        × ((m : List Entry) × Stored searched.now.molecule.now.bytes.now memo.old run.entries m) }
+    ensures gated { (m : List Entry) → Stored searched.now.molecule.now.bytes.now memo.old run.entries m
+        → Gated searched.now.molecule.now.bytes.now searched.now.setting (memo_room (length memo.old)) s.now run m memo.new result }
+    ensures cached { Cached searched.now.molecule.now.bytes.now desk.new }
 {
+    let setting = searched.setting;
     if setting.budget <= run.states {
         return Err(Halt::Budget(setting.budget));
     }
@@ -90,19 +91,19 @@ fn enter(
         states: run.states + 1,
         ..run
     };
-    if int_stops(setting.bounds, s, run.best) {
+    if int_stops(setting, s, run.best) {
         return Ok(Gate::Stops(next));
     }
-    if setting.memo != 1 {
+    if !setting.has_memo() {
         return Ok(Gate::Goes(next));
     }
     let asked = memoize::ask(
-        molecule,
+        searched.molecule,
         memo,
         run.entries,
-        &s.pieces[..s.count],
+        &s.pieces,
         s.index,
-        &s.removals[..s.removed],
+        &s.removals,
         desk,
         slate,
     );
@@ -113,12 +114,13 @@ fn enter(
 fn own_answer(s: &State, run: Run) -> Found
     ensures { OwnAnswer s.now run result }
 {
-    Found {
+    let mut found = Found {
         index: s.index,
-        trail: s.removals,
-        length: s.removed,
+        trail: ArrayVec::new(),
         run,
-    }
+    };
+    state::copy_removals(&s.removals, &mut found.trail);
+    found
 }
 
 // What is found so far, after a child's answer: what is carried is the child's, and the answer where it is less.
@@ -147,41 +149,28 @@ fn lowered(found: Found) -> Found
 
 // Enters a state and, unless it is stopped, each child in turn, with what is carried then; at the end best is lowered to the least answer.
 fn visit(
-    molecule: &Molecule,
-    pairs: &[u64],
-    setting: Setting,
+    searched: &Searched,
     memo: &mut [u64],
     desk: &mut [u64],
     slate: &mut Slate,
     s: &State,
     run: Run,
 ) -> Result<Found, Halt>
-    requires { MayEnter molecule.now.bytes.now pairs.now memo.old desk.old s.now run }
-    ensures follows { (m : List Entry) → Stored molecule.now.bytes.now memo.old run.entries m
-        → Visited molecule.now.bytes.now setting (memo_room (length memo.old)) s.now run m result memo.new }
-    ensures cached { Cached molecule.now.bytes.now desk.new }
+    requires { MayEnter searched.now.molecule.now.bytes.now memo.old desk.old s.now run }
+    ensures follows { (m : List Entry) → Stored searched.now.molecule.now.bytes.now memo.old run.entries m
+        → Visited searched.now.molecule.now.bytes.now searched.now.setting (memo_room (length memo.old)) s.now run m result memo.new }
+    ensures cached { Cached searched.now.molecule.now.bytes.now desk.new }
 {
-    let next = match enter(molecule, setting, memo, desk, slate, s, run)? {
+    let next = match enter(searched, memo, desk, slate, s, run)? {
         Gate::Stops(next) => return Ok(own_answer(s, next)),
         Gate::Goes(next) => next,
     };
     let mut found = own_answer(s, next);
-    let matches = pairs.len() / 4;
-    let b = branch::branch_of(
-        &molecule.touch,
-        pairs,
-        matches,
-        setting.bounds,
-        *s,
-        next.best,
-    );
-    let mut m = branch::next(pairs, b.first, matches, &b.own, b.all, b.least);
-    // A while: which match comes next is found by a search of its own.
-    while m < matches {
-        let c = branch::below(&molecule.touch, pairs, *s, &b.held[..b.count], m);
-        let child = visit(molecule, pairs, setting, memo, desk, slate, &c, found.run)?;
+    let b = branch::branch_of(searched, s, next.best);
+    for m in b.removals(&searched.rows) {
+        let c = branch::below(searched, s, &b.held, m);
+        let child = visit(searched, memo, desk, slate, &c, found.run)?;
         found = better(found, child);
-        m = branch::next(pairs, m + 1, matches, &b.own, b.all, b.least);
     }
     Ok(lowered(found))
 }
@@ -189,22 +178,20 @@ fn visit(
 // The search of a molecule of n bonds, from the root and with best n - 1.
 #[tactic(auto, using(search::proofs::Parts::few, search::proofs::Parts::some))]
 pub fn search(
-    molecule: &Molecule,
-    pairs: &[u64],
-    setting: Setting,
+    searched: &Searched,
     memo: &mut [u64],
     desk: &mut [u64],
     slate: &mut Slate,
 ) -> Result<Found, Halt>
-    requires { MayStart molecule.now.bytes.now pairs.now memo.old desk.old }
-    ensures { Searches molecule.now.bytes.now setting (memo_room (length memo.old)) result memo.new }
+    requires { MayStart searched.now.molecule.now.bytes.now memo.old desk.old }
+    ensures { Searches searched.now.molecule.now.bytes.now searched.now.setting (memo_room (length memo.old)) result memo.new }
 {
-    let n = molecule.bonds();
+    let n = searched.molecule.bonds();
     let s = state::root(n);
     let run = Run {
         best: n as u32 - 1,
         states: 0,
         entries: 0,
     };
-    visit(molecule, pairs, setting, memo, desk, slate, &s, run)
+    visit(searched, memo, desk, slate, &s, run)
 }

@@ -1,4 +1,4 @@
--- The big components by the words, lists written piece by piece, and that what is written is what the definitions say. Assumes nothing.
+-- The big components by the words, lists made piece by piece, and that what is made is what the definitions say. Assumes nothing.
 use mathlib.Core.Path.{◌≡◌, refl, sym, ap, ◌∙◌}
 use mathlib.Core.Logic.{◌⊎◌, inl, inr, ◌≢◌}
 use mathlib.Core.Bool.{true, false}
@@ -11,8 +11,8 @@ use native.Mathlib.Nat.{lt_of_not-le}
 use native.Mathlib.Numerals.{add-one}
 use lib.Bits.{bit_and, and_le_r}
 use lib.Dec.{leb}
-use lib.ListN.{length, get_or, take, drop, set, length-append, take-append-drop}
-use lib.Seq.{length-take-le, take_all, take-suc, drop-cons, take_at, drop-append-add, drop-drop}
+use lib.ListN.{length, get_or, take, drop, length-append}
+use lib.Seq.{take_all, take-suc, drop-cons}
 use borrow.Author.Tests.{leb-true, le-leb, lt-leb, eqb-true, eqb-false, eq-eqb, ne_eqb}
 use Rattle.bitset.specs.Bits.{size, diff, low, is_disjoint, Lowest, WithoutLowest}
 use Rattle.bitset.proofs.Bools.{two}
@@ -24,7 +24,6 @@ use Rattle.molecule.specs.Touch.{parts, reach}
 use Rattle.molecule.specs.Connected.{Own, Connected}
 use Rattle.molecule.proofs.Growing.{lead, rest, rest_word, rest_less, reach_one, reach_sub, parts_by, parts_step, parts_none}
 use Rattle.molecule.proofs.Components.{own_sub, components_self, components_words}
-use Rattle.molecule.proofs.Lists.{Front, front_start, front_length, front_put}
 use Rattle.bounds.specs.Numbers.{sum_of}
 use Rattle.matches.specs.Table.{Pair, size_of}
 use Rattle.search.specs.State.{State, big_components, keep, remove, child}
@@ -90,28 +89,17 @@ pub big_self : (bytes : Bytes) (touch pieces : List ℕ) (p : ℕ) → Owned byt
 unfolding big_components
 big_self bytes touch pieces p w o k h = rw (components_self bytes w.few p o k, le-leb 2 (size p) h)
 
--- ---- the big components written one by one
+-- ---- the big components added one by one
 
--- the big components of s that are found are written from place k on, up to r; what is left of s has the others
-pub record Pushing (touch : List ℕ) (s k : ℕ) (old now : List ℕ) (left r : ℕ) : Type 0 where
-  pub room : 2 * r + size left ≤ 2 * length old
+-- the big components of s that are found are added to the words of old; what is left of s has the others, and there is room for them
+pub record Pushing (touch : List ℕ) (s n : ℕ) (old now : List ℕ) (left : ℕ) : Type 0 where
+  pub room : 2 * length now + size left ≤ 2 * n
   pub word : left < 2 ^ 64
-  pub found : List ℕ
-  pub front : Front old now r (take k old ++ found)
-  pub total : found ++ big_parts touch left ≡ big_parts touch s
+  pub total : now ++ big_parts touch left ≡ old ++ big_parts touch s
 
-pub pushing_start : (touch : List ℕ) (s k : ℕ) (old : List ℕ) → 2 * k + size s ≤ 2 * length old → s < 2 ^ 64 → Pushing touch s k old old s k
-pushing_start touch s k old h w = record {
-  room = h;
-  word = w;
-  found = [];
-  front = record { count = rw append-nil (length-take-le k old (omega arith)); is = rw (append-nil, take-append-drop) };
-  total = refl;
-}
-
-module _ {touch : List ℕ} {s k : ℕ} {old now : List ℕ} {left r : ℕ} (p : Pushing touch s k old now left r) where
-  -- the component c of the lowest bond i of what is left is passed, or written
-  module _ (n : left ≢ 0) {i c : ℕ} (low : Lowest left i) (leads : c ≡ reach (near touch) left (2 ^ i)) where
+module _ {touch : List ℕ} {s n : ℕ} {old now : List ℕ} {left : ℕ} (p : Pushing touch s n old now left) where
+  -- the component c of the lowest bond i of what is left is passed, or added
+  module _ (some : left ≢ 0) {i c : ℕ} (low : Lowest left i) (leads : c ≡ reach (near touch) left (2 ^ i)) where
     is_lead : c ≡ lead (near touch) left
     is_lead = rw (leads, low.is)
 
@@ -124,42 +112,34 @@ module _ {touch : List ℕ} {s k : ℕ} {old now : List ℕ} {left r : ℕ} (p :
       is_rest = rw (rests, is_lead)
 
       pub pushing_less : size d < size left
-      pushing_less = rw is_rest (rest_less (near touch) left n p.word)
+      pushing_less = rw is_rest (rest_less (near touch) left some p.word)
 
     module _ {e : ℕ} (w : WithoutLowest c e) where
       two_lead : e ≢ 0 → 2 ≤ size (lead (near touch) left)
       two_lead z = rw is_lead at (two_bonds c e w z)
 
-      pub pushing_room : e ≢ 0 → r < length old
-      pushing_room z = omega (arith, p.room, two_lead z, rest_size touch left n p.word)
+      pub pushing_room : e ≢ 0 → length now < n
+      pushing_room z = omega (arith, p.room, two_lead z, rest_size touch left some p.word)
 
       module _ {d : ℕ} (rests : d ≡ diff left c) where
-        pub pushing_pass : e ≡ 0 → Pushing touch s k old now d r
+        pub pushing_pass : e ≡ 0 → Pushing touch s n old now d
         pushing_pass z =
             let one : size (lead (near touch) left) < 2 = rw is_lead at (one_bond c e w z) in
             rw (is_rest rests) (record {
-              room = omega (arith, p.room, rest_less (near touch) left n p.word);
+              room = omega (arith, p.room, rest_less (near touch) left some p.word);
               word = rest_word (near touch) left p.word;
-              found = p.found;
-              front = p.front;
-              total = rw (← big_pass touch left n p.word one) p.total;
+              total = rw (← big_pass touch left some p.word one) p.total;
             })
 
-        pub pushing_take : e ≢ 0 → Pushing touch s k old (set now r c) d (r + 1)
-        pushing_take z = rw (is_rest rests, is_lead) (record {
-          room = omega (arith, p.room, two_lead z, rest_size touch left n p.word);
+        pub pushing_take : {then : List ℕ} → e ≢ 0 → then ≡ now ++ (c ∷ []) → Pushing touch s n old then d
+        pushing_take z added = rw (added, is_rest rests, is_lead) (record {
+          room = omega (arith, p.room, two_lead z, rest_size touch left some p.word, length-append now (lead (near touch) left ∷ []));
           word = rest_word (near touch) left p.word;
-          found = p.found ++ (lead (near touch) left ∷ []);
-          front = rw (← append_assoc (take k old) p.found (lead (near touch) left ∷ [])) (front_put old now r (take k old ++ p.found) (lead (near touch) left) p.front (pushing_room z));
-          total = append_assoc p.found (lead (near touch) left ∷ []) (big_parts touch (rest (near touch) left)) ∙ ap (λ (l : List ℕ). p.found ++ l) (sym (big_take touch left n p.word (two_lead z))) ∙ p.total;
+          total = append_assoc now (lead (near touch) left ∷ []) (big_parts touch (rest (near touch) left)) ∙ ap (λ (l : List ℕ). now ++ l) (sym (big_take touch left some p.word (two_lead z))) ∙ p.total;
         })
 
-  pub pushing_done : k ≤ length old → left ≡ 0 → (r ≡ k + length (big_parts touch s)) × (now ≡ take k old ++ (big_parts touch s ++ drop r old))
-  pushing_done h z =
-      let e : p.found ≡ big_parts touch s = sym (append-nil p.found) ∙ ap (λ (l : List ℕ). p.found ++ l) (sym (ap (big_parts touch) z ∙ big_none touch)) ∙ p.total in (
-        omega (arith, p.front.count, length-append (take k old) p.found, length-take-le k old h, ap length e),
-        rw (← e) (p.front.is ∙ append_assoc (take k old) p.found (drop r old)),
-      )
+  pub pushing_done : left ≡ 0 → now ≡ old ++ big_parts touch s
+  pushing_done z = sym (append-nil now) ∙ ap (λ (l : List ℕ). now ++ l) (sym (ap (big_parts touch) z ∙ big_none touch)) ∙ p.total
 
 -- ---- without the bonds gone
 
@@ -210,44 +190,29 @@ left touch kept p = big_parts touch (bit_and p kept)
 abbrev pub room : ℕ → ℕ → ℕ
 room struck p = size (diff p struck)
 
--- a run of elements more at the front
-pub front_join : (old now then : List ℕ) (k r : ℕ) (done more : List ℕ) → Front old now k done → r ≡ k + length more → then ≡ take k now ++ (more ++ drop r now) → Front old then r (done ++ more)
-front_join old now then k r done more w c e = record {
-  count = length-append done more ∙ omega (arith, w.count);
-  is =
-      let t : take k now ≡ done = rw w.is (take_at done (drop k old) k w.count) in
-      let q : r ≡ length done + length more = omega (arith, w.count) in
-      let d : drop r now ≡ drop r old = rw (q, w.is, drop-append-add done (drop k old) (length more), drop-drop (length more) k old, w.count) in
-      rw (e, t, d) (sym (append_assoc done more (drop r old)));
-}
-
--- the first i of the pieces l are written, as f says of each, on k places; what w says of each is room enough for the others, and spare is left over
-pub record Written (f : ℕ → List ℕ) (w : ℕ → ℕ) (spare : ℕ) (l old now : List ℕ) (i k : ℕ) : Type 0 where
+-- what f says of the first i of the pieces l is in the list; what w says of each is room enough for the others, and spare is left over
+pub record Written (f : ℕ → List ℕ) (w : ℕ → ℕ) (spare n : ℕ) (l now : List ℕ) (i : ℕ) : Type 0 where
   pub within : i ≤ length l
-  pub front : Front old now k (flat_map f (take i l))
-  pub room : 2 * k + (sum_of w (drop i l) + spare) ≤ 2 * length old
+  pub is : now ≡ flat_map f (take i l)
+  pub room : 2 * length now + (sum_of w (drop i l) + spare) ≤ 2 * n
 
-pub written_start : (f : ℕ → List ℕ) (w : ℕ → ℕ) (spare : ℕ) (l old : List ℕ) → sum_of w l + spare ≤ 2 * length old → Written f w spare l old old 0 0
+pub written_start : (f : ℕ → List ℕ) (w : ℕ → ℕ) (spare n : ℕ) (l now : List ℕ) → now ≡ [] → sum_of w l + spare ≤ 2 * n → Written f w spare n l now 0
 unfolding flat_map
-written_start f w spare l old h = record { within = omega arith; front = front_start old; room = omega arith }
+written_start f w spare n l now e h = record { within = omega arith; is = e; room = omega (arith, ap length e) }
 
-module _ {f : ℕ → List ℕ} {w : ℕ → ℕ} {spare : ℕ} {l old now : List ℕ} {i k : ℕ} (s : Written f w spare l old now i k) where
-  pub written_length : length now ≡ length old
-  written_length = front_length s.front (omega (arith, s.room))
+module _ {f : ℕ → List ℕ} {w : ℕ → ℕ} {spare n : ℕ} {l now : List ℕ} {i : ℕ} (s : Written f w spare n l now i) where
+  pub written_room : i < length l → 2 * length now + (w (get_or l i 0) + spare) ≤ 2 * n
+  written_room h = omega (arith, s.room, sum_next w l i h)
 
-  pub written_room : i < length l → 2 * k + (w (get_or l i 0) + spare) ≤ 2 * length now
-  written_room h = omega (arith, s.room, sum_next w l i h, written_length)
-
-  pub written_next : (then : List ℕ) (r : ℕ) → i < length l → r ≡ k + length (f (get_or l i 0)) → then ≡ take k now ++ (f (get_or l i 0) ++ drop r now)
-      → 2 * length (f (get_or l i 0)) ≤ w (get_or l i 0) → Written f w spare l old then (i + 1) r
-  written_next then r h c e small = record {
+  pub written_next : (then : List ℕ) → i < length l → then ≡ now ++ f (get_or l i 0) → 2 * length (f (get_or l i 0)) ≤ w (get_or l i 0) → Written f w spare n l then (i + 1)
+  written_next then h e small = record {
     within = omega arith;
-    front = rw (flat_next f l i h) (front_join old now then k r (flat_map f (take i l)) (f (get_or l i 0)) s.front c e);
-    room = omega (arith, s.room, sum_next w l i h);
+    is = rw (flat_next f l i h, ← s.is) e;
+    room = omega (arith, s.room, sum_next w l i h, ap length e, length-append now (f (get_or l i 0)));
   }
 
-  pub written_done : length l ≤ i → Front old now k (flat_map f l)
-  written_done h = rw (take_all i l h) at s.front
+  pub written_done : length l ≤ i → now ≡ flat_map f l
+  written_done h = rw (take_all i l h) at s.is
 
 -- ---- what the definitions say
 

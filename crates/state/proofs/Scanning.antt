@@ -10,13 +10,12 @@ use mathlib.Core.List.Memᴰ.{eq_of_singleton as mem_one}
 use mathlib.Core.List.Memᴰ.{head as m_head}
 use mathlib.Core.List.Memᴰ.{not-nil}
 use mathlib.Core.List.{List, [], ◌∷◌, Memᴰ as Mem}
-use Prim.Native.Nat.{ℕ, zero, suc, ◌+◌, ◌-◌, ◌*◌, ◌^◌, ◌≤◌, ◌<◌, max}
+use Prim.Native.Nat.{ℕ, zero, suc, ◌+◌, ◌-◌, ◌^◌, ◌≤◌, ◌<◌, max}
 use native.Mathlib.Omega.{arith}
-use native.Mathlib.Nat.{sub_self}
 use native.Mathlib.Numerals.{add-one}
 use native.Mathlib.Decide.{ℕ_discrete}
 use borrow.Author.Tests.{eqb-true, eqb-false, eq-eqb, ne_eqb}
-use lib.ListN.{length, get_or, set, take, replicate, length-set}
+use lib.ListN.{length, get_or, set, take, replicate, length-set, length-map}
 use lib.Seq.{take-suc, get_or-set_same, get_or-set_other}
 use Rattle.std.specs.List.{fold}
 use lib.Bits.{bit_and, bit_or, or_comm, or_zero_r}
@@ -28,11 +27,13 @@ use Rattle.bitset.proofs.Decide.{sets, sub, or, v}
 use Rattle.molecule.specs.Lists.{Bytes, numbers_from, any}
 use Rattle.molecule.specs.Connected.{Apart}
 use Rattle.molecule.proofs.Scans.{scan_hit, scan_next, from_none}
-use Rattle.molecule.proofs.Lists.{at_mem, any_some, any_none, zeros_at, numbers_none, numbers_more}
+use Rattle.molecule.proofs.Lists.{at_mem, map_at, any_some, any_none, zeros_at, numbers_none, numbers_more}
 use Rattle.bounds.proofs.Steps.{apart_sym}
 use Rattle.matches.specs.Table.{Pair, pair, size_of}
+use Rattle.matches.proofs.Laws.{pair_is, size_of_first}
+use Rattle.matches.specs.Inner.Written.{four_words}
 use Rattle.search.specs.State.{struck, inside, removable, mask_of}
-use Rattle.state.specs.Inner.Scan.{Owners, Marked, Scanning, Told, goes}
+use Rattle.state.specs.Inner.Scan.{Owning, Row, AllRows, Marked, rows_of, Told, goes}
 
 -- ---- a piece put at its bonds
 
@@ -43,9 +44,6 @@ pub record Marking (old now : List ℕ) (p rest : ℕ) : Type 0 where
   pub left : (b : ℕ) → bit rest b ≡ 1 → bit p b ≡ 1
   pub these : (b : ℕ) → b < 64 → bit p b ≡ 1 → bit rest b ≡ 0 → get_or now b 0 ≡ p
   pub others : (b : ℕ) → b < 64 → bit p b ≡ 0 → get_or now b 0 ≡ get_or old b 0
-
-pub marking_start : (old : List ℕ) (p : ℕ) → p < 2 ^ 64 → Marking old old p p
-marking_start old p h = record { few = h; long = refl; left = λ b e. e; these = λ b l e z. absurd (omega arith); others = λ b l e. refl }
 
 pub marking_next : {old now : List ℕ} {p rest i t : ℕ} → length old ≡ 64 → Marking old now p rest → Lowest rest i → WithoutLowest rest t → Marking old (set now i p) p t
 marking_next {old} {now} {p} {rest} {i} {t} n w l f = record {
@@ -68,7 +66,7 @@ marking_done w e = record { long = w.long; these = λ b h m. w.these b h m (ap (
 
 -- ---- the owners
 
-pub owners_none : (own : List ℕ) → ((b : ℕ) → get_or own b 0 ≡ 0) → Owners [] own
+pub owners_none : (own : List ℕ) → ((b : ℕ) → get_or own b 0 ≡ 0) → Owning [] own
 owners_none own z = record { one = λ b p h m. absurd (not-nil m); none = λ b h f. z b }
 
 -- a piece before the i-th has no bond of it
@@ -79,7 +77,7 @@ apart_before (x ∷ l) (suc i) a h q m =
     ⊎_elim (λ (e : q ≡ x). rw e (apart_sym x (get_or l i 0) (a.0 (get_or l i 0) (at_mem 0 l i (omega arith))))) (λ (k : Mem q (take i l)). apart_before l i a.1 (omega arith) q k) (mem_cons m)
 
 -- one piece more
-pub owners_next : (pieces : List ℕ) {own now : List ℕ} (i : ℕ) → Apart pieces → i < length pieces → Owners (take i pieces) own → Marked own now (get_or pieces i 0) → Owners (take (i + 1) pieces) now
+pub owners_next : (pieces : List ℕ) {own now : List ℕ} (i : ℕ) → Apart pieces → i < length pieces → Owning (take i pieces) own → Marked own now (get_or pieces i 0) → Owning (take (i + 1) pieces) now
 owners_next pieces {own} {now} i a h w m = rw (add-one i, take-suc pieces i 0 h) (record {
   one = λ b q l n e. ⊎_elim (λ (k : Mem q (take i pieces)). m.others b l (outside b q k e) ∙ w.one b q l k e) (λ (k : Mem q (p ∷ [])). let s : q ≡ p = mem_one k in m.these b l (rw s at e) ∙ sym s) (mem_cases (take i pieces) n);
   none = λ b l z. m.others b l (z p (mem_right (take i pieces) (m_head refl))) ∙ w.none b l (λ q n. z q (mem_left (p ∷ []) n));
@@ -107,7 +105,7 @@ is_sub_lem : (s t : ℕ) → is_sub s t ≡ true → Sub s t
 is_sub_lem s t e = eqb-true (bit_and s t) s e
 
 -- h is inside a piece just where it is a subset of the owner of any of its bonds
-pub owner_inside : (pieces own : List ℕ) (h b : ℕ) → Owners pieces own → b < 64 → bit h b ≡ 1 → is_sub h (get_or own b 0) ≡ inside pieces h
+pub owner_inside : (pieces own : List ℕ) (h b : ℕ) → Owning pieces own → b < 64 → bit h b ≡ 1 → is_sub h (get_or own b 0) ≡ inside pieces h
 unfolding inside
 owner_inside pieces own h b w l m = go (two (any (is_sub h) pieces))
   where
@@ -148,13 +146,21 @@ outside_whole pieces a b n = go (two (inside pieces a)) (two (inside pieces b))
     go (inl e) (inr f) = rw (e, f)
     go (inr e) f = rw e
 
--- a match that is not removable, by the words of the table: not all its bonds are in pieces, or its first fragment is not inside
-module _ {words : List ℕ} {ms : List Pair} {pieces own : List ℕ} {all m : ℕ} (w : Scanning words ms pieces own all) (h : m < length ms) where
-  pub scan_outside : {r : Bool} → r ≡ is_sub (get_or words (4 * m + 2) 0) all → r ≡ false → false ≡ goes ms pieces m
-  scan_outside e n = sym (outside_whole pieces (pair ms m).h1 (pair ms m).h2 (rw (w.recorded.both m h, w.whole) at (sym e ∙ n)))
+-- a row whose match is not removable: not all its bonds are in pieces, or its first fragment is not inside
+module _ (row pieces : List ℕ) where
+  pub scan_outside : {all : ℕ} {r : Bool} → Row row → all ≡ unions (λ p. p) pieces → r ≡ is_sub (get_or row 2 0) all → r ≡ false → false ≡ (inside pieces (get_or row 0 0) && inside pieces (get_or row 1 0))
+  scan_outside w u e n = sym (outside_whole pieces (get_or row 0 0) (get_or row 1 0) (rw (w.both, u) at (sym e ∙ n)))
 
-  pub scan_first : {r : Bool} → ((l : List ℕ) → Owners l own → r ≡ inside l (get_or words (4 * m) 0)) → r ≡ false → false ≡ goes ms pieces m
-  scan_first e n = let z : inside pieces (pair ms m).h1 ≡ false = rw (w.recorded.one m h) at (sym (e pieces w.owners) ∙ n) in rw z
+  pub scan_first : {r : Bool} → r ≡ inside pieces (get_or row 0 0) → r ≡ false → false ≡ (inside pieces (get_or row 0 0) && inside pieces (get_or row 1 0))
+  scan_first e n = let z : inside pieces (get_or row 0 0) ≡ false = sym e ∙ n in rw z
+
+-- ---- the rows of matches
+
+pub rows_long : (ms : List Pair) → length (rows_of ms) ≡ length ms
+rows_long ms = length-map ms (λ p. four_words p.h1 p.h2)
+
+pub row_at : (ms : List Pair) (m : ℕ) → m < length ms → get_or (rows_of ms) m [] ≡ four_words (pair ms m).h1 (pair ms m).h2
+row_at ms m h = rw (pair_is ms m) (map_at (λ p. four_words p.h1 p.h2) (record { h1 = 0; h2 = 0 }) [] ms m h)
 
 -- ---- the removable matches from a number on
 
@@ -173,17 +179,17 @@ module _ (ms : List Pair) (pieces : List ℕ) where
   unfolding removable
   removable_out bytes i h e = rw (numbers_step i h, e)
 
-  pub removable_end : (bytes : Bytes) (i : ℕ) → i ≡ length ms → removable bytes ms pieces i ≡ []
+  pub removable_end : (bytes : Bytes) (i : ℕ) → length ms ≤ i → removable bytes ms pieces i ≡ []
   unfolding removable
-  removable_end bytes i e = rw (e, sub_self (length ms), numbers_none (length ms))
+  removable_end bytes i e = let z : length ms - i ≡ 0 = omega arith in rw (z, numbers_none i)
 
   -- ---- the scan
 
   pub told_start : (i n : ℕ) (masks : List ℕ) → i ≡ length ms → masks ≡ replicate n 0 → Told ms pieces i masks 0 i
   unfolding mask_of
   told_start i n masks e z = record {
-    masked = λ bytes k h. rw (z, removable_end bytes i e) (zeros_at n k ∙ sym (unions_none (struck ms)));
-    largest = λ bytes. rw (removable_end bytes i e);
+    masked = λ bytes k h. rw (z, removable_end bytes i (omega (arith, e))) (zeros_at n k ∙ sym (unions_none (struck ms)));
+    largest = λ bytes. rw (removable_end bytes i (omega (arith, e)));
     first = let z : length ms - i ≡ 0 = omega arith in rw z (sym (from_none (goes ms pieces) i));
     after = omega arith;
     within = omega arith;
@@ -225,17 +231,24 @@ module _ (ms : List Pair) (pieces : List ℕ) where
     same = λ bytes. refl;
   }
 
--- one match more by the words of the table, from number i down to i - 1
-module _ {words : List ℕ} {ms : List Pair} {pieces own : List ℕ} {all : ℕ} (w : Scanning words ms pieces own all) {i start largest : ℕ} {masks : List ℕ} (p : 0 < i) (h : i ≤ length ms) (t : Told ms pieces i masks largest start) where
+-- one match more by its row, from number i down to i - 1
+module _ {rows : List (List ℕ)} {ms : List Pair} {pieces : List ℕ} (r : rows ≡ rows_of ms) {i start largest : ℕ} {masks : List ℕ} (p : 0 < i) (h : i ≤ length rows) (t : Told ms pieces i masks largest start) where
+  within : i ≤ length ms
+  within = omega (arith, ap length r, rows_long ms)
+
   before : Told ms pieces (suc (i - 1)) masks largest start
   before = let e : suc (i - 1) ≡ i = omega arith in rw e t
 
-  pub told_take : length masks ≡ 33 → true ≡ goes ms pieces (i - 1) → Told ms pieces (i - 1) (set masks (get_or words (4 * (i - 1) + 3) 0) (bit_or (get_or masks (get_or words (4 * (i - 1) + 3) 0) 0) (get_or words (4 * (i - 1) + 2) 0))) (max largest (get_or words (4 * (i - 1) + 3) 0)) (i - 1)
-  unfolding struck
-  told_take n g =
-      let l : i - 1 < length ms = omega arith in
-      let e : max largest (size_of ms (i - 1)) ≡ max (size_of ms (i - 1)) largest = omega arith in
-      rw (w.recorded.sized (i - 1) l, w.recorded.both (i - 1) l, e) (told_in ms pieces (i - 1) start largest masks l (sym g) (omega (arith, w.most (i - 1) l)) before)
+  row : get_or rows (i - 1) [] ≡ four_words (pair ms (i - 1)).h1 (pair ms (i - 1)).h2
+  row = rw r (row_at ms (i - 1) (omega (arith, within)))
 
-  pub told_skip : false ≡ goes ms pieces (i - 1) → Told ms pieces (i - 1) masks largest start
-  told_skip g = told_out ms pieces (i - 1) start largest masks (omega arith) (sym g) before
+  pub told_take : AllRows rows → length masks ≡ 33 → true ≡ (inside pieces (get_or (get_or rows (i - 1) []) 0 0) && inside pieces (get_or (get_or rows (i - 1) []) 1 0)) → Told ms pieces (i - 1) (set masks (get_or (get_or rows (i - 1) []) 3 0) (bit_or (get_or masks (get_or (get_or rows (i - 1) []) 3 0) 0) (get_or (get_or rows (i - 1) []) 2 0))) (max largest (get_or (get_or rows (i - 1) []) 3 0)) (i - 1)
+  unfolding struck
+  told_take w n g =
+      let l : i - 1 < length ms = omega (arith, within) in
+      let m : size_of ms (i - 1) ≤ 32 = rw (row, size_of_first ms (i - 1)) at (w (i - 1) (omega arith)).most in
+      let e : max largest (size_of ms (i - 1)) ≡ max (size_of ms (i - 1)) largest = omega arith in
+      rw (row, size_of_first ms (i - 1), e) (told_in ms pieces (i - 1) start largest masks l (sym (rw row at g)) (omega arith) before)
+
+  pub told_skip : false ≡ (inside pieces (get_or (get_or rows (i - 1) []) 0 0) && inside pieces (get_or (get_or rows (i - 1) []) 1 0)) → Told ms pieces (i - 1) masks largest start
+  told_skip g = told_out ms pieces (i - 1) start largest masks (omega (arith, within)) (sym (rw row at g)) before

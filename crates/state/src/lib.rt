@@ -1,6 +1,8 @@
 #![tactic(auto)]
 // A state of the search by value (src/state.rs), and the pieces that a removal leaves.
-ghost use Rattle.std.specs.Prelude.{◌≡◌, List, ◌++◌, ℕ, ◌+◌, ◌-◌, ◌*◌, ◌^◌, ◌≤◌, ◌<◌, length, take, drop};
+// Numbers turn by `as`, shown to lose nothing: usize has no From, and a TryFrom would answer an error that never is.
+ghost use Rattle.std.specs.Prelude.{◌≡◌, List, ◌++◌, ℕ, ◌+◌, ◌-◌, ◌*◌, ◌^◌, ◌≤◌, ◌<◌, get_or};
+ghost use Rattle.arrayvec.specs.ArrayVec.{array_vec_len};
 ghost use Rattle.bitset.specs.Bits.{size, diff};
 ghost use Rattle.molecule.specs.Lists.{Bytes};
 ghost use Rattle.molecule.specs.Record.{bonds};
@@ -9,132 +11,129 @@ ghost use Rattle.search.specs.State.{root, keep, remove, child};
 ghost use Rattle.state.specs.Inner.Views.{state_of};
 ghost use Rattle.state.specs.Inner.Pieces.{big_parts, fallen, bonds_in, bonds_left, Big, Owned, OwnedFragments, Chosen};
 
+use arrayvec::ArrayVec;
+
 pub mod scan;
 
-// At most 32 pieces, of which so many are there; the index; the size of the largest removed; the number after the last removed; at most 32 removals,
-// of which so many are there.
-#[derive(Clone, Copy, Debug, PartialEq, Eq)]
+// At most 32 pieces; the index; the size of the largest removed; the number after the last removed; at most 32 removals.
+#[derive(Clone, Debug, PartialEq, Eq, Drop)]
 pub struct State {
-    pub pieces: [u64; 32],
-    pub count: usize,
+    pub pieces: ArrayVec<u64, 32>,
     pub index: u32,
     pub largest: u32,
     pub next: usize,
-    pub removals: [u32; 32],
-    pub removed: usize,
+    pub removals: ArrayVec<u32, 32>,
 }
 
 // All n bonds as one piece.
 pub fn root(n: usize) -> State
     requires { (1 ≤ n) × (n ≤ 64) }
     ensures is { (bytes : Bytes) (ms : List Pair) → bonds bytes ≡ n → state_of result ≡ root bytes ms }
-    ensures counts { (result.count ≡ 1) × (result.removed ≡ 0) }
+    ensures counts { (array_vec_len result.pieces ≡ 1) × (array_vec_len result.removals ≡ 0) }
 {
-    let mut pieces = [0u64; 32];
-    pieces[0] = bitset::first_n(n as u32);
+    let mut pieces = ArrayVec::new();
+    pieces.push(bitset::first_n(n as u32));
     State {
         pieces,
-        count: 1,
         index: n as u32 - 1,
         largest: n as u32,
         next: 0,
-        removals: [0u32; 32],
-        removed: 0,
+        removals: ArrayVec::new(),
     }
 }
 
-// The components of s that have two or more bonds go to out from place k on; the answer is how many out has then.
-fn push_big(touch: &[u64; 64], s: u64, out: &mut [u64], k: usize) -> usize
-    requires { 2 * k + size s ≤ 2 * length out.old }
-    ensures count { result ≡ k + length (big_parts touch.now s) }
-    ensures holds { out.new ≡ take k out.old ++ (big_parts touch.now s ++ drop result out.old) }
+// The components of s that have two or more bonds are added to out. The touching words stay a parameter here and below: a molecule in their place would
+// ask more of callers, since this holds of any words.
+fn push_big<const N: usize>(touch: &[u64; 64], s: u64, out: &mut ArrayVec<u64, N>)
+    requires { 2 * array_vec_len out.old + size s ≤ 2 * N }
+    ensures { out.new.items ≡ out.old.items ++ big_parts touch.now s }
 {
     let mut rest = s;
-    let mut r = k;
     // A while: what is left falls by a component, not by its lowest member.
     while rest != 0 {
         let c = molecule::graph::component(touch, rest, bitset::lowest(rest));
         rest = bitset::difference(rest, c);
         if bitset::without_lowest(c) != 0 {
-            out[r] = c;
-            r += 1;
+            out.push(c);
         }
     }
-    r
 }
 
-// Letting go: what is left of each piece with the bonds of kept alone goes to the front of out; the answer is how many there are.
-pub fn keep(touch: &[u64; 64], pieces: &[u64], kept: u64, out: &mut [u64]) -> usize
-    requires { bonds_in pieces.now ≤ 2 * length out.old }
-    ensures within { result ≤ length out.old }
-    ensures is { (bytes : Bytes) (ms : List Pair) → Owned bytes touch.now pieces.now
-        → (result ≡ length (keep bytes ms kept pieces.now))
-        × (out.new ≡ keep bytes ms kept pieces.now ++ drop result out.old) }
+// Letting go: out becomes what is left of each piece with the bonds of kept alone.
+pub fn keep<const N: usize>(
+    touch: &[u64; 64],
+    pieces: &[u64],
+    kept: u64,
+    out: &mut ArrayVec<u64, N>,
+)
+    requires { bonds_in pieces.now ≤ 2 * N }
+    ensures { (bytes : Bytes) (ms : List Pair) → Owned bytes touch.now pieces.now
+        → out.new.items ≡ keep bytes ms kept pieces.now }
 {
-    let mut k = 0;
+    out.clear();
     for p in pieces {
-        k = push_big(touch, bitset::common(*p, kept), out, k);
+        push_big(touch, bitset::common(*p, kept), out);
     }
-    k
 }
 
-// What piece p falls into without the bonds gone goes to out from place k on; the answer is how many out has then. A piece that has none of them
-// stays as it is.
-fn push_fallen(touch: &[u64; 64], p: u64, gone: u64, out: &mut [u64], k: usize) -> usize
-    requires { (2 ≤ size p) × (2 * k + size (diff p gone) ≤ 2 * length out.old) }
-    ensures count { result ≡ k + length (fallen touch.now gone p) }
-    ensures holds { out.new ≡ take k out.old ++ (fallen touch.now gone p ++ drop result out.old) }
+// What piece p falls into without the bonds gone is added to out. A piece that has none of them stays as it is.
+fn push_fallen<const N: usize>(touch: &[u64; 64], p: u64, gone: u64, out: &mut ArrayVec<u64, N>)
+    requires { (2 ≤ size p) × (2 * array_vec_len out.old + size (diff p gone) ≤ 2 * N) }
+    ensures { out.new.items ≡ out.old.items ++ fallen touch.now gone p }
 {
     if bitset::is_disjoint(p, gone) {
-        out[k] = p;
-        return k + 1;
+        out.push(p);
+    } else {
+        push_big(touch, bitset::difference(p, gone), out);
     }
-    push_big(touch, bitset::difference(p, gone), out, k)
 }
 
-// What the pieces fall into without the bonds struck goes to the front of out, and h1 after it; the answer is how many there are.
-pub fn remove(touch: &[u64; 64], pieces: &[u64], struck: u64, h1: u64, out: &mut [u64]) -> usize
-    requires { Big pieces.now × (bonds_left struck pieces.now + 2 ≤ 2 * length out.old) }
-    ensures within { result ≤ length out.old }
-    ensures is { (bytes : Bytes) (ms : List Pair) (m : ℕ) → OwnedFragments bytes touch.now pieces.now
-        → Chosen ms m h1 struck → (result ≡ length (remove bytes ms pieces.now m))
-        × (out.new ≡ remove bytes ms pieces.now m ++ drop result out.old) }
-{
-    let mut k = 0;
-    for p in pieces {
-        k = push_fallen(touch, *p, struck, out, k);
-    }
-    out[k] = h1;
-    k + 1
-}
-
-// The state after match m, of this size, is removed from the pieces held.
-pub fn child(
+// Out becomes what the pieces fall into without the bonds struck, and h1 after it.
+pub fn remove<const N: usize>(
     touch: &[u64; 64],
-    s: State,
-    held: &[u64],
-    m: usize,
-    h1: u64,
+    pieces: &[u64],
     struck: u64,
-    size: u32,
-) -> State
-    requires { Big held.now × (bonds_left struck held.now + 2 ≤ 64) × (m < 2 ^ 32) × (1 ≤ size) × (size - 1 ≤ s.index) × (s.removed < 32) }
-    ensures is { (bytes : Bytes) (ms : List Pair) → OwnedFragments bytes touch.now held.now
-        → Chosen ms m h1 struck → size_of ms m ≡ size → state_of result ≡ child bytes ms (state_of s) held.now m }
-    ensures counts { (result.count ≤ 32) × (result.removed ≡ s.removed + 1) × (result.removed ≤ 32) }
+    h1: u64,
+    out: &mut ArrayVec<u64, N>,
+)
+    requires { Big pieces.now × (bonds_left struck pieces.now + 2 ≤ 2 * N) }
+    ensures { (bytes : Bytes) (ms : List Pair) (m : ℕ) → OwnedFragments bytes touch.now pieces.now
+        → Chosen ms m h1 struck → out.new.items ≡ remove bytes ms pieces.now m }
 {
-    let mut pieces = [0u64; 32];
-    let count = remove(touch, held, struck, h1, &mut pieces);
-    let mut removals = s.removals;
-    let k = s.removed;
-    removals[k] = m as u32;
-    State {
-        pieces,
-        count,
-        index: s.index - (size - 1),
-        largest: size,
-        next: m + 1,
-        removals,
-        removed: k + 1,
+    out.clear();
+    for p in pieces {
+        push_fallen(touch, *p, struck, out);
     }
+    out.push(h1);
+}
+
+// To becomes the same removals. By hand, in place: a list that is answered by value, as the library's copies are, made a score take 1.05 of the time.
+pub fn copy_removals(removals: &ArrayVec<u32, 32>, to: &mut ArrayVec<u32, 32>)
+    ensures { to.new.items ≡ removals.now.items }
+{
+    to.clear();
+    to.try_extend_from_slice(removals).unwrap();
+}
+
+// The state after match m is removed from the pieces held; row is the match's.
+pub fn child(touch: &[u64; 64], s: &State, held: &[u64], m: usize, row: &[u64; 4]) -> State
+    requires { Big held.now × (bonds_left (get_or row.now 2 0) held.now + 2 ≤ 64) × (m < 2 ^ 32)
+        × (1 ≤ get_or row.now 3 0) × (get_or row.now 3 0 < 2 ^ 32)
+        × (get_or row.now 3 0 - 1 ≤ s.now.index) × (array_vec_len s.now.removals < 32) }
+    ensures is { (bytes : Bytes) (ms : List Pair) → OwnedFragments bytes touch.now held.now → Chosen ms m (get_or row.now 0 0) (get_or row.now 2 0)
+        → size_of ms m ≡ get_or row.now 3 0 → state_of result ≡ child bytes ms (state_of s.now) held.now m }
+    ensures counts { array_vec_len result.removals ≡ array_vec_len s.now.removals + 1 }
+{
+    let [h1, _, struck, size] = *row;
+    let mut c = State {
+        pieces: ArrayVec::new(),
+        index: s.index - (size as u32 - 1),
+        largest: size as u32,
+        next: m + 1,
+        removals: ArrayVec::new(),
+    };
+    remove(touch, held, struck, h1, &mut c.pieces);
+    copy_removals(&s.removals, &mut c.removals);
+    c.removals.push(m as u32);
+    c
 }

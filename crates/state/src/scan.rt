@@ -1,15 +1,32 @@
-// Which matches are removable in a state, and the bonds in them by size (src/state.rs). The pairs table has four words a match: h1, h2, their union
-// and the size of h1.
-ghost use Rattle.std.specs.Prelude.{◌≡◌, ◌≢◌, List, ℕ, ◌≤◌, ◌<◌, max, length};
+// Which matches are removable in a state, and the bonds in them by size (src/state.rs). A match is a row of four words: h1, h2, their union and the
+// size of h1.
+ghost use Rattle.std.specs.Prelude.{◌≡◌, ◌≢◌, ◌&&◌, List, ◌≤◌, ◌<◌, max, length, get_or};
 ghost use Rattle.bitset.specs.Bits.{unions};
 ghost use Rattle.molecule.specs.Connected.{Apart};
 ghost use Rattle.matches.specs.Table.{Pair};
 ghost use Rattle.search.specs.State.{inside};
-ghost use Rattle.state.specs.Inner.Scan.{Owners, Marked, Scanning, Told, goes};
+ghost use Rattle.state.specs.Inner.Scan.{Owning, Row, AllRows, Marked, rows_of, Told};
+
+// Rows of matches; nothing is said of their order.
+#[derive(Clone, Copy, Drop)]
+pub struct Rows<'a> {
+    pub words: &'a [[u64; 4]],
+    ghost rows: { AllRows words.now },
+}
+
+// The pieces of a state: for each bond the piece that has it, and where none has 0, no Option: no set but the empty one is a subset of it, so that no
+// test has a case for it; and the bonds of all.
+#[derive(Clone, Copy, Drop)]
+pub struct Owners<'a> {
+    pub pieces: &'a [u64],
+    pub own: [u64; 64],
+    pub all: u64,
+    ghost owning: { Owning pieces.now own },
+    ghost whole: { all ≡ unions (λ p. p) pieces.now },
+}
 
 // Puts p at each of its bonds.
-fn mark(own: &mut [u64], p: u64)
-    requires { length own.old ≡ 64 }
+fn mark(own: &mut [u64; 64], p: u64)
     ensures { Marked own.old own.new p }
 {
     for b in bitset::ascending(p) {
@@ -17,10 +34,10 @@ fn mark(own: &mut [u64], p: u64)
     }
 }
 
-// For each bond the piece that has it, 0 for none.
-pub fn owners(pieces: &[u64]) -> [u64; 64]
+// For each bond the piece that has it, 0 where none has.
+fn by_bond(pieces: &[u64]) -> [u64; 64]
     requires { Apart pieces.now }
-    ensures { Owners pieces.now result }
+    ensures { Owning pieces.now result }
 {
     let mut own = [0u64; 64];
     for p in pieces {
@@ -36,55 +53,63 @@ pub fn whole(pieces: &[u64]) -> u64
     pieces.iter().fold(0, |all, p| bitset::union(all, *p))
 }
 
-// Whether h is whole inside a piece: it is a subset of the piece that has its lowest bond.
-fn is_inside(own: &[u64; 64], h: u64) -> bool
-    requires { h ≢ 0 }
-    ensures { (pieces : List ℕ) → Owners pieces own.now → result ≡ inside pieces h }
-{
-    let b = bitset::lowest(h) as usize;
-    bitset::is_subset(h, own[b])
+impl<'a> Owners<'a> {
+    pub fn of(pieces: &'a [u64]) -> Owners<'a>
+        requires { Apart pieces.now }
+        ensures { result.pieces.now ≡ pieces.now }
+    {
+        Owners {
+            pieces,
+            own: by_bond(pieces),
+            all: whole(pieces),
+        }
+    }
 }
 
-// Whether match m is removable: both fragments are inside pieces. Where their union is not among the bonds of all pieces, they are not.
-pub fn is_removable(pairs: &[u64], m: usize, own: &[u64; 64], all: u64) -> bool
-    requires { (ms : List Pair) × (pieces : List ℕ) × Scanning pairs.now ms pieces own.now all × (m < length ms) }
-    ensures { (ms : List Pair) → (pieces : List ℕ) → Scanning pairs.now ms pieces own.now all → m < length ms
-        → result ≡ goes ms pieces m }
-{
-    bitset::is_subset(pairs[4 * m + 2], all)
-        && is_inside(own, pairs[4 * m])
-        && is_inside(own, pairs[4 * m + 1])
+impl Owners<'_> {
+    // Whether h is whole inside a piece: it is a subset of the piece that has its lowest bond.
+    fn is_inside(&self, h: u64) -> bool
+        requires { h ≢ 0 }
+        ensures { result ≡ inside self.now.pieces.now h }
+    {
+        let b = bitset::lowest(h) as usize;
+        bitset::is_subset(h, self.own[b])
+    }
+
+    // Whether a match is removable: both fragments are inside pieces. Where their union is not among the bonds of all pieces, they are not.
+    pub fn is_removable(&self, row: &[u64; 4]) -> bool
+        requires { Row row.now }
+        ensures { result ≡ (inside self.now.pieces.now (get_or row.now 0 0) && inside self.now.pieces.now (get_or row.now 1 0)) }
+    {
+        let [h1, h2, both, _] = *row;
+        bitset::is_subset(both, self.all) && self.is_inside(h1) && self.is_inside(h2)
+    }
 }
 
-// The largest size of a removable match, 0 for none; and the number of the first, that of the matches where there is none.
+// The largest size of a removable match, 0 where there is none, as a largest of no numbers is; and where the removable matches begin, after all matches
+// if there is none: a place and no Option, since what comes next goes on from it, as after partition_point.
 #[derive(Clone, Copy, Debug, PartialEq, Eq)]
 pub struct Scanned {
     pub largest: u32,
     pub first: usize,
 }
 
-// The bonds in the removable matches from .. matches of each size go to masks. The scan goes from the last match down.
-pub fn masks(
-    pairs: &[u64],
-    from: usize,
-    matches: usize,
-    own: &[u64; 64],
-    all: u64,
-    masks: &mut [u64],
-) -> Scanned
-    requires { (length masks.old ≡ 33) × (from ≤ matches) × ((ms : List Pair) × (pieces : List ℕ)
-        × Scanning pairs.now ms pieces own.now all × (matches ≡ length ms)) }
-    ensures long { length masks.new ≡ 33 }
-    ensures told { (ms : List Pair) → (pieces : List ℕ) → Scanning pairs.now ms pieces own.now all
-        → matches ≡ length ms → Told ms pieces from masks.new result.largest result.first }
+// The bonds in the removable matches from a number on of each size go to masks. The scan goes from the last match down. The number stays beside the
+// rows: matches are known by their numbers in the whole table, which a part of the rows would shift.
+pub fn masks(rows: &Rows, from: usize, owners: &Owners, masks: &mut [u64; 33]) -> Scanned
+    requires { from ≤ length rows.now.words.now }
+    ensures { (ms : List Pair) → rows.now.words.now ≡ rows_of ms
+        → Told ms owners.now.pieces.now from masks.new result.largest result.first }
 {
     clear::zero(masks);
     let mut largest = 0u32;
-    let mut first = matches;
-    for i in (from..matches).rev() {
-        if is_removable(pairs, i, own, all) {
-            let k = pairs[4 * i + 3] as usize;
-            masks[k] = bitset::union(masks[k], pairs[4 * i + 2]);
+    let mut first = rows.words.len();
+    for i in (from..rows.words.len()).rev() {
+        let row = &rows.words[i];
+        if owners.is_removable(row) {
+            let [_, _, both, size] = *row;
+            let k = size as usize;
+            masks[k] = bitset::union(masks[k], both);
             largest = largest.max(k as u32);
             first = i;
         }

@@ -1,7 +1,6 @@
 -- The parts of score's answer: the search's, and the four tables cleared.
 use Rattle.std.specs.Prelude.{◌≡◌, List, ℕ, ◌≤◌, length, replicate, Result}
 use Rattle.molecule.specs.Lists.{Bytes}
-use Rattle.molecule.specs.Check.{check, accepted}
 use Rattle.matches.specs.Table.{match_table, pairs}
 use Rattle.search.specs.Setting.{Setting, memo_room}
 use Rattle.search.specs.Search.{search}
@@ -19,9 +18,8 @@ pub record AnswerTold (a : ScoreAnswer) (answered : Result Score ScoreRefusal) (
   pub answer : answer_of answered now ≡ a
   pub ends : now ≡ trail_after a trail
 
--- none of rows 1 to 8 applies
-pub record Admitted (r : Bytes) (setting : Setting) (lent : Loan) : Type 0 where
-  pub ok : check r ≡ accepted
+-- neither row 7 nor row 8 applies
+pub record Admitted (setting : Setting) (lent : Loan) : Type 0 where
   pub bounds : setting.bounds ≤ 3
   pub memo : setting.memo ≤ 1
   pub trail : 32 ≤ length lent.trail

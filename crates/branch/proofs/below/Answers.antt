@@ -1,10 +1,15 @@
 -- The match chosen is one of the table.
-use Rattle.std.proofs.Common.{rules}
 use Rattle.branch.proofs.Branching.{below_asks, below_is}
 use Rattle.branch.proofs.below.Goals as goal
 
 pub child-requires : goal.child-requires
-child-requires c = let p = c.requires in below_asks p.0 p.1 _ _ p.2 p.3 _ p.4 _ _ p.5 (search rules)
+child-requires c =
+    let S = c.args.searched.now in
+    let M = S.molecule.now in
+    below_asks M.bytes.now M.accepted S.rows.words.now S.listed _ c.requires.0 _ _ c.requires.1 S.few
 
 pub returns : goal.returns
-returns c = λ bytes at matches S E C. below_is bytes at _ _ matches S _ E _ _ C _ c.child.ensures.is c.child.ensures.counts
+returns c =
+    let S = c.args.searched.now in
+    let M = S.molecule.now in
+    below_is M.bytes.now M.accepted S.rows.words.now S.listed _ c.requires.0 _ _ c.requires.1 M.touch M.touching _ c.child.ensures.is

@@ -4,9 +4,9 @@ use Rattle.std.proofs.lemmas.Fn.{always_returns_same}
 use Rattle.branch.proofs.Branching.{rows_parted, rows_passed}
 use Rattle.branch.proofs.first_fitting.Goals as goal
 
-pub returns : goal.returns
-returns c = λ bytes ms pieces own M w e.
+pub returns-clause-passes : goal.returns-clause-passes
+returns-clause-passes c = λ bytes ms pieces M e u.
     let half = c.from.result / 2 in
-    let parted = rows_parted M w e c.as_chunks.ensures.front c.args.from half in
+    let parted = rows_parted M e c.args.from c.requires half in
     let point = c.partition_point.ensures.partitioned (λ row. ltb half (get_or row 3 0)) (always_returns_same _ _ _ (λ a r q k. search rules)) parted in
-    rows_passed M w e c.as_chunks.ensures.front c.args.from half _ (ap (λ n. n / 2) (c.from.ensures ∙ c.size.ensures)) (omega arith) (omega arith) point.0
+    rows_passed M e c.args.from c.requires half _ _ pieces (ap (λ n. n / 2) (c.from.ensures ∙ c.size.ensures)) u (omega arith) point.0

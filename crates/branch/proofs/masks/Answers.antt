@@ -2,5 +2,6 @@
 use Rattle.branch.proofs.Branching.{told_earlier}
 use Rattle.branch.proofs.masks.Goals as goal
 
-pub returns-clause-told : goal.returns-clause-told
-returns-clause-told c = λ bytes ms pieces M w e. told_earlier ms pieces _ _ _ _ _ (c.first_fitting-start.ensures bytes ms pieces _ M w e) (c.masks.ensures.told ms pieces w e)
+pub returns : goal.returns
+returns c = λ bytes ms M e.
+    told_earlier ms _ _ _ _ _ _ (c.first_fitting-start.ensures.passes bytes ms _ M e c.args.owners.now.whole) (c.masks.ensures ms e)

@@ -1,12 +1,11 @@
 -- What the code's search answers, as the outcome of its definition.
-use Rattle.std.specs.Prelude.{◌≡◌, Bool, List, [], ℕ, suc, ◌-◌, ◌*◌, ◌≤◌, min, Option, Some, None, Result, Ok, Err, length, take, ltb}
+use Rattle.std.specs.Prelude.{◌≡◌, Bool, List, [], ℕ, suc, ◌-◌, ◌≤◌, min, Option, Some, None, Result, Ok, Err, ltb}
 use Rattle.bitset.specs.Bits.{size}
 use Rattle.molecule.specs.Lists.{Bytes, pick}
 use Rattle.molecule.specs.Record.{bonds}
 use Rattle.bounds.specs.Numbers.{sum_of}
 use Rattle.matches.specs.Table.{Pair, pairs}
-use Rattle.matches.specs.Inner.Written.{Recorded}
-use Rattle.search.specs.Setting.{Setting}
+use Rattle.search.specs.Setting.{Setting, has_int}
 use Rattle.search.specs.Memo.{Entry}
 use Rattle.search.specs.Search as search
 use Rattle.state.specs.declared.State.{State}
@@ -28,7 +27,7 @@ run_of run memo = record { best = run.best; states = run.states; memo = memo }
 
 -- what the code has found, with the memo that its table stores, is the definition's outcome
 abbrev pub found_as : Found → List Entry → search.Outcome
-found_as o memo = search.answers o.index (take o.length o.trail) (run_of o.run memo)
+found_as o memo = search.answers o.index o.trail.items (run_of o.run memo)
 
 -- and so is what ends it early: rows 11 and 12
 abbrev pub halted_as : Halt → search.Outcome
@@ -39,7 +38,6 @@ halted_as (Memo n) = search.halts 12 n
 pub record Answered (r : Bytes) (best : ℕ) (o : Found) (words : List ℕ) (x : search.Outcome) : Type 0 where
   pub memo : List Entry
   pub is : x ≡ found_as o memo
-  pub short : o.length ≤ 32
   pub low : o.run.best ≤ best
   pub stored : Stored r words o.run.entries memo
 
@@ -59,32 +57,23 @@ Searches r setting room o words = Follows r (bonds r - 1) o words (search.search
 
 -- ---- what the search is given
 
--- the words are those of the record's matches, and no more
-pub record Tabled (r : Bytes) (words : List ℕ) : Type 0 where
-  pub recorded : Recorded words (pairs r)
-  pub long : length words ≡ 4 * length (pairs r)
-  pub few : length (pairs r) ≤ 4294967295
-
 -- a state to enter, with what is carried so far
-pub record MayEnter (r : Bytes) (words memo desk : List ℕ) (s : State) (run : Run) : Type 0 where
-  pub tabled : Tabled r words
+pub record MayEnter (r : Bytes) (memo desk : List ℕ) (s : State) (run : Run) : Type 0 where
   pub entered : Entered r s
   pub low : run.best ≤ 64
   pub cached : Cached r desk
   pub stored : (m : List Entry) × Stored r memo run.entries m
 
 -- an empty memo, and a desk on which what is said holds
-pub record MayStart (r : Bytes) (words memo desk : List ℕ) : Type 0 where
-  pub tabled : Tabled r words
+pub record MayStart (r : Bytes) (memo desk : List ℕ) : Type 0 where
   pub cached : Cached r desk
   pub stored : Stored r memo 0 []
 
 -- ---- entering a state
 
--- whether Int stops the state
-abbrev pub IntStops : ℕ → State → ℕ → Bool → Type 0
-IntStops bounds s best b = (r : Bytes) (ms : List Pair) (setting : Setting) (room : ℕ)
-    → setting.bounds ≡ bounds → b ≡ search.int_stops r ms setting room (state_of s) best
+-- whether Int stops the state, also under any other setting with Int on or off as here
+abbrev pub IntStops : Setting → State → ℕ → Bool → Type 0
+IntStops setting s best b = (r : Bytes) (ms : List Pair) (other : Setting) (room : ℕ) → has_int other ≡ has_int setting → b ≡ search.int_stops r ms other room (state_of s) best
 
 -- where the memo's answer leads a state that has been counted
 abbrev pub gate_of : Result (Option ℕ) Full → Run → Result Gate Halt
@@ -127,19 +116,17 @@ Gated r setting room s run m words (Err h) = Ended r setting room s run m h
 -- the state's own index and removals as its answer
 pub record OwnAnswer (s : State) (run : Run) (o : Found) : Type 0 where
   pub index : o.index ≡ s.index
-  pub length : o.length ≡ s.removed
-  pub trail : o.trail ≡ s.removals
+  pub trail : o.trail.items ≡ s.removals.items
   pub carried : o.run ≡ run
 
 -- after a child's answer: what is carried is the child's, and so is the answer where it is less
 abbrev pub better_of : Found → Found → Found
-better_of found child = pick (ltb child.index found.index) child (record { index = found.index; trail = found.trail; length = found.length; run = child.run })
+better_of found child = pick (ltb child.index found.index) child (record { index = found.index; trail = found.trail; run = child.run })
 
 -- best lowered to the answer
 pub record Lowered (found o : Found) : Type 0 where
   pub index : o.index ≡ found.index
   pub trail : o.trail ≡ found.trail
-  pub length : o.length ≡ found.length
   pub best : o.run.best ≡ min found.run.best found.index
   pub states : o.run.states ≡ found.run.states
   pub entries : o.run.entries ≡ found.run.entries

@@ -1,28 +1,26 @@
--- What a piece falls into is written after the others, and h1 at the end.
-use Rattle.std.proofs.Common.{◌<◌, ◌^◌, get_or, arith, sym}
-use Rattle.molecule.proofs.Lists.{front_put, at_mem}
+-- What a piece falls into is added after the others, and h1 at the end.
+use Rattle.std.proofs.Common.{◌<◌, ◌^◌, get_or, arith, rules}
+use Rattle.molecule.proofs.Lists.{at_mem}
 use Rattle.state.specs.Inner.Pieces.{fallen}
 use Rattle.state.proofs.Pieces.{room, written_start, written_room, written_next, written_done, fallen_room, remove_is}
 use Rattle.state.proofs.remove.Goals as goal
 
 pub loop-p-init : goal.loop-p-init
-loop-p-init c = written_start (fallen c.args.touch.now c.args.struck) (room c.args.struck) 2 c.args.pieces.now c.args.out.now c.requires.1
+loop-p-init g c = written_start (fallen c.args.touch.now c.args.struck) (room c.args.struck) 2 g.row.N c.args.pieces.now _ c.clear.ensures c.requires.1
 
-pub push_fallen-k-requires : goal.push_fallen-k-requires
-push_fallen-k-requires c =
-    (c.requires.0 _ (at_mem 0 c.args.pieces.now c.loop-p.p-index (omega arith)), omega (arith, written_room c.loop-p.invariant (omega arith)))
+pub push_fallen-requires : goal.push_fallen-requires
+push_fallen-requires g c =
+    (search rules, (c.requires.0 _ (at_mem 0 c.args.pieces.now c.loop-p.p-index (omega arith)), omega (arith, written_room c.loop-p.invariant (omega arith))))
 
 pub loop-p-preserved : goal.loop-p-preserved
-loop-p-preserved c =
-    let k = c.push_fallen-k in
+loop-p-preserved g c =
     let p = get_or c.args.pieces.now c.loop-p.p-index 0 in
     let w : p < 2 ^ 64 = omega (arith, c.type_inv.pieces c.loop-p.p-index) in
-    written_next c.loop-p.invariant k.new.out k.result (omega arith) k.ensures.count k.ensures.holds
+    written_next c.loop-p.invariant _ (omega arith) c.push_fallen.ensures
     (fallen_room c.args.touch.now c.args.struck p w (c.requires.0 p (at_mem 0 c.args.pieces.now c.loop-p.p-index (omega arith))))
 
-pub returns-clause-is : goal.returns-clause-is
-returns-clause-is c =
+pub returns : goal.returns
+returns g c =
     let a = c.args in
     let d = written_done c.loop-p.invariant (omega arith) in
-    let f = front_put _ _ _ _ a.h1 d (omega (arith, c.loop-p.invariant.room)) in
-    λ bytes ms m w e. rw (← remove_is bytes ms a.touch.now a.pieces.now m a.h1 a.struck w c.requires.0 e) (sym f.count, f.is)
+    λ bytes ms m w e. let r = remove_is bytes ms a.touch.now a.pieces.now m a.h1 a.struck w c.requires.0 e in cc

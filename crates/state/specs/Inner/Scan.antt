@@ -1,15 +1,16 @@
--- What a scan of the pairs table for the removable matches of a state gives, and what it is given.
-use Rattle.std.specs.Prelude.{◌≡◌, ◌≢◌, Bool, ◌&&◌, ℕ, ◌-◌, ◌*◌, ◌≤◌, ◌<◌, length, get_or}
-use mathlib.Core.List.{List, Memᴰ}
-use Rattle.bitset.specs.Bits.{bit, unions}
+-- What a scan of the rows of matches for the removable ones of a state gives, and what it is given.
+use Rattle.std.specs.Prelude.{◌≡◌, ◌≢◌, Bool, ◌&&◌, List, [], map, ℕ, ◌-◌, ◌≤◌, ◌<◌, length, get_or}
+use Rattle.std.specs.Int.Bits.{bit_or}
+use mathlib.Core.List.{Memᴰ}
+use Rattle.bitset.specs.Bits.{bit}
 use Rattle.molecule.specs.Lists.{Bytes, first_from}
 use Rattle.matches.specs.Table.{Pair, pair, size_of}
-use Rattle.matches.specs.Inner.Written.{Recorded}
+use Rattle.matches.specs.Inner.Written.{four_words}
 use Rattle.bounds.specs.Numbers.{max_of}
 use Rattle.search.specs.State.{inside, removable, mask_of}
 
 -- for each bond the piece that has it, 0 where none has it
-pub record Owners (pieces own : List ℕ) : Type 0 where
+pub record Owning (pieces own : List ℕ) : Type 0 where
   pub one : (b p : ℕ) → b < 64 → Memᴰ p pieces → bit p b ≡ 1 → get_or own b 0 ≡ p
   pub none : (b : ℕ) → b < 64 → ((p : ℕ) → Memᴰ p pieces → bit p b ≡ 0) → get_or own b 0 ≡ 0
 
@@ -19,15 +20,19 @@ pub record Marked (old now : List ℕ) (p : ℕ) : Type 0 where
   pub these : (b : ℕ) → b < 64 → bit p b ≡ 1 → get_or now b 0 ≡ p
   pub others : (b : ℕ) → b < 64 → bit p b ≡ 0 → get_or now b 0 ≡ get_or old b 0
 
--- the words are those of the matches ms, whose fragments are not empty and of at most 32 bonds; own has the owners of the bonds of pieces, and all is their union
-pub record Scanning (words : List ℕ) (ms : List Pair) (pieces own : List ℕ) (all : ℕ) : Type 0 where
-  pub recorded : Recorded words ms
-  pub room : 4 * length ms ≤ length words
-  pub first : (m : ℕ) → m < length ms → (pair ms m).h1 ≢ 0
-  pub second : (m : ℕ) → m < length ms → (pair ms m).h2 ≢ 0
-  pub most : (m : ℕ) → m < length ms → size_of ms m ≤ 32
-  pub owners : Owners pieces own
-  pub whole : all ≡ unions (λ p. p) pieces
+-- a row of two fragments, neither empty, of their union, and of a size of at most 32
+pub record Row (row : List ℕ) : Type 0 where
+  pub first : get_or row 0 0 ≢ 0
+  pub second : get_or row 1 0 ≢ 0
+  pub both : get_or row 2 0 ≡ bit_or (get_or row 0 0) (get_or row 1 0)
+  pub most : get_or row 3 0 ≤ 32
+
+abbrev pub AllRows : List (List ℕ) → Type 0
+AllRows rows = (m : ℕ) → m < length rows → Row (get_or rows m [])
+
+-- the rows of the matches ms
+abbrev pub rows_of : List Pair → List (List ℕ)
+rows_of ms = map (λ p. four_words p.h1 p.h2) ms
 
 -- both fragments of match m are inside pieces
 abbrev pub goes : List Pair → List ℕ → ℕ → Bool

@@ -9,7 +9,7 @@ pub returns-in_err-matches : goal.returns-in_err-matches
 returns-in_err-matches c =
     let a = c.args in
     let p = err_from_is_err_and c.from_residual.result c.from_residual.ensures.1 in
-    rw (p.1, p.2) (told_table a.molecule.now.bytes.now a.setting (loan a.trail.now a.parts.now a.pairs.now a.memo.now a.desk.now) c.requires _ _ _ refl c.in_err-matches.ensures.answer)
+    rw (p.1, p.2) (told_table a.molecule.now.bytes.now a.molecule.now.accepted a.setting (loan a.trail.now a.parts.now a.pairs.now a.memo.now a.desk.now) c.requires _ _ _ refl c.in_err-matches.ensures.answer)
 
 pub find-requires : goal.find-requires
 find-requires c =
@@ -21,4 +21,4 @@ find-requires c =
 pub returns : goal.returns
 returns c =
     let a = c.args in
-    told_built a.molecule.now.bytes.now a.setting (loan a.trail.now a.parts.now a.pairs.now a.memo.now a.desk.now) c.requires _ _ c.in_ok-matches.ensures.answer _ c.find.ensures
+    told_built a.molecule.now.bytes.now a.molecule.now.accepted a.setting (loan a.trail.now a.parts.now a.pairs.now a.memo.now a.desk.now) c.requires _ _ c.in_ok-matches.ensures.answer _ c.find.ensures

@@ -30,5 +30,5 @@ returns c =
     let a = c.args in
     let w = c.answer_and_clear.ensures in
     let lent = loan a.trail.now a.parts.now a.pairs.now a.memo.now a.desk.now in
-    let e : Admitted a.molecule.now.bytes.now a.setting lent = record { ok = a.molecule.now.accepted; bounds = c.if-setting-gt3.false; memo = c.if-setting-gt1.false; trail = c.if-trail-lt32.false; desk = c.if-desk-lt4096.false } in
-    answers_by w.told.answer (leaves_cleared a.molecule.now.bytes.now a.setting lent e _ w.told.ends w.cleared)
+    let e : Admitted a.setting lent = record { bounds = c.if-setting-gt3.false; memo = c.if-setting-gt1.false; trail = c.if-trail-lt32.false; desk = c.if-desk-lt4096.false } in
+    answers_by w.told.answer (leaves_cleared a.molecule.now.bytes.now a.molecule.now.accepted a.setting lent e _ w.told.ends w.cleared)

@@ -12,34 +12,34 @@ returns-then-setting-run-clause-gated c = λ m w. ends_spent _ _ _ _ _ m c.if-se
 pub int_stops-requires : goal.int_stops-requires
 int_stops-requires c =
     let p = c.requires in
-    let M = c.args.molecule.now in
-    (p.0.pieces, largest_few M.bytes.now M.accepted (state_of c.args.s.now) p.0.fine)
+    let M = c.args.searched.now.molecule.now in
+    largest_few M.bytes.now M.accepted (state_of c.args.s.now) p.0.fine
 
 pub returns-then-int_stops-clause-gated : goal.returns-then-int_stops-clause-gated
 returns-then-int_stops-clause-gated c = λ m w.
     let a = c.args in
-    let r = a.molecule.now.bytes.now in
-    let stops = sym (c.int_stops.ensures r (pairs r) a.setting _ refl) ∙ c.if-int_stops.true in
-    stops_int r a.setting _ a.s.now a.run m c.if-setting-run.false _ (record { best = refl; states = add-one _ }) stops _ w
+    let r = a.searched.now.molecule.now.bytes.now in
+    let stops = sym (c.int_stops.ensures r (pairs r) _ _ refl) ∙ c.if-int_stops.true in
+    stops_int r a.searched.now.setting _ a.s.now a.run m c.if-setting-run.false _ (record { best = refl; states = add-one _ }) stops _ w
 
-pub returns-then-setting-ne1-clause-gated : goal.returns-then-setting-ne1-clause-gated
-returns-then-setting-ne1-clause-gated c = λ m w.
+pub returns-then-not-has_memo-clause-gated : goal.returns-then-not-has_memo-clause-gated
+returns-then-not-has_memo-clause-gated c = λ m w.
     let a = c.args in
-    let r = a.molecule.now.bytes.now in
-    let stops = sym (c.int_stops.ensures r (pairs r) a.setting _ refl) ∙ c.if-int_stops.false in
-    goes_plain r a.setting _ a.s.now a.run m c.if-setting-run.false _ (record { best = refl; states = add-one _ }) stops c.if-setting-ne1.true _ w
+    let r = a.searched.now.molecule.now.bytes.now in
+    let stops = sym (c.int_stops.ensures r (pairs r) _ _ refl) ∙ c.if-int_stops.false in
+    goes_plain r a.searched.now.setting _ a.s.now a.run m c.if-setting-run.false _ (record { best = refl; states = add-one _ }) stops (sym c.has_memo.ensures ∙ c.if-not-has_memo.true) _ w
 
 pub ask-asked-requires : goal.ask-asked-requires
 ask-asked-requires c =
     let p = c.requires in
-    let M = c.args.molecule.now in
-    (p.1, p.2, fragments_of M.bytes.now c.args.s.now M.accepted p.0, p.0.both)
+    let M = c.args.searched.now.molecule.now in
+    (p.1, p.2, rw c.deref.ensures.0 (fragments_of M.bytes.now c.args.s.now M.accepted p.0), rw (c.deref.ensures.0, c.deref-2.ensures.0) p.0.both)
 
 pub returns-clause-gated : goal.returns-clause-gated
 returns-clause-gated c = λ m w.
     let a = c.args in
-    let r = a.molecule.now.bytes.now in
-    let stops = sym (c.int_stops.ensures r (pairs r) a.setting _ refl) ∙ c.if-int_stops.false in
-    let asked = c.ask-asked.ensures.answer m w in
+    let r = a.searched.now.molecule.now.bytes.now in
+    let stops = sym (c.int_stops.ensures r (pairs r) _ _ refl) ∙ c.if-int_stops.false in
+    let asked = rw (c.deref.ensures.0, c.deref-2.ensures.0) at (c.ask-asked.ensures.answer m w) in
     rw c.passed.ensures
-    (gated_memo r a.setting _ a.s.now a.run m c.if-setting-run.false _ (record { best = refl; states = add-one _ }) stops _ _ w c.if-setting-ne1.false _ _ _ refl refl asked)
+    (gated_memo r a.searched.now.setting _ a.s.now a.run m c.if-setting-run.false _ (record { best = refl; states = add-one _ }) stops _ _ w (sym c.has_memo.ensures ∙ c.if-not-has_memo.false) _ _ _ refl refl asked)

@@ -4,10 +4,10 @@ use Rattle.state.specs.Inner.Views.{state_of}
 use Rattle.recurse.proofs.Turns.{stops_off, stops_on}
 use Rattle.recurse.proofs.visit.int_stops.Goals as goal
 
-pub returns-then-not-has : goal.returns-then-not-has
-returns-then-not-has c = λ r ms setting room e. stops_off r ms setting room _ _ _ e (sym c.has.ensures ∙ c.if-not-has.true)
+pub returns-then-not-has_int : goal.returns-then-not-has_int
+returns-then-not-has_int c = λ r ms other room e. stops_off r ms other room _ _ (e ∙ sym c.has_int.ensures ∙ c.if-not-has_int.true)
 
 pub returns : goal.returns
-returns c = λ r ms setting room e.
+returns c = λ r ms other room e.
     rw (c.from.ensures, c.from-2.ensures, c.from-3.ensures)
-    (stops_on r ms setting room (state_of c.args.s.now) c.args.best c.args.bounds e (sym c.has.ensures ∙ c.if-not-has.false) _ c.int_bound-j.ensures)
+    (stops_on r ms other room (state_of c.args.s.now) c.args.best (e ∙ sym c.has_int.ensures ∙ c.if-not-has_int.false) _ (rw c.deref.ensures.0 at c.int_bound-j.ensures))

@@ -7,13 +7,12 @@ use Rattle.recurse.proofs.visit.search.Goals as goal
 
 pub visit-requires : goal.visit-requires
 visit-requires c =
-    let M = c.args.molecule.now in
+    let M = c.args.searched.now.molecule.now in
     let p = c.requires in
     let n = c.bonds-n.ensures in
     let s = c.root-s in
     record {
-      tabled = p.tabled;
-      entered = root_entered M.bytes.now M.accepted s.result (s.ensures.is M.bytes.now (pairs M.bytes.now) (sym n)) s.ensures.counts;
+      entered = root_entered M.bytes.now M.accepted s.result (s.ensures.is M.bytes.now (pairs M.bytes.now) (sym n));
       low = omega (arith, n, few M.bytes.now M.accepted);
       cached = p.cached;
       stored = ([], p.stored);
@@ -22,8 +21,8 @@ visit-requires c =
 pub returns : goal.returns
 returns c =
     let a = c.args in
-    let M = a.molecule.now in
+    let M = a.searched.now.molecule.now in
     let n = sym c.bonds-n.ensures in
     let s = c.root-s in
     let v = c.visit in
-    root_found M.bytes.now M.accepted s.result (s.ensures.is M.bytes.now (pairs M.bytes.now) n) a.setting _ c.bonds-n.result n v.result v.new.memo (v.ensures.follows [] c.requires.stored)
+    root_found M.bytes.now M.accepted s.result (s.ensures.is M.bytes.now (pairs M.bytes.now) n) a.searched.now.setting _ c.bonds-n.result n v.result v.new.memo (v.ensures.follows [] c.requires.stored)
