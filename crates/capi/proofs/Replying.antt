@@ -1,5 +1,5 @@
 -- The reply to score's result is document 01's answer, field by field, and demand 3 holds of a score. Assumes nothing.
-use Rattle.std.proofs.Common.{◌≡◌, refl, sym, List, ℕ, ◌<◌, arith, length, take, Result, Ok, Err}
+use Rattle.std.proofs.Common.{◌≡◌, refl, sym, List, ℕ, arith, length, take, Result, Ok, Err}
 use Rattle.molecule.specs.Lists.{Bytes}
 use Rattle.search.specs.Setting.{Setting, Room}
 use Rattle.search.specs.Answer.{scored, turned_back, score_answer}

@@ -1,5 +1,6 @@
 #![tactic(auto)]
 // The public calls with the replies that cross to C: a number and a place, or what a score holds. The C functions are those of `capi_c`, which call these.
+// Numbers turn by `as`, shown to lose nothing: usize has no From, and a TryFrom would answer an error that never is.
 ghost use Rattle.std.specs.Prelude.{◌≡◌, length};
 ghost use Rattle.molecule.specs.Check.{check, number, place};
 ghost use Rattle.canonize.specs.Answer.{number as label_number, value as label_value, label_answer, buffer_after};
@@ -12,8 +13,9 @@ use assembly::{Setting, score};
 use molecule::Refusal;
 
 // Document 01's number, 0 where there is no refusal, and its place, or for a label its length, for matches how many there are.
+// A number for each kind of refusal and no Result: the C interface has no enum with fields.
 #[repr(C)]
-#[derive(Clone, Copy)]
+#[derive(Clone, Copy, Debug, PartialEq, Eq)]
 pub struct Reply {
     pub number: u32,
     pub place: u64,
@@ -55,6 +57,7 @@ pub fn assembly_label(bytes: &[u8], set: u64, out: &mut [u8]) -> Reply
 }
 
 // matches.
+// The tables one by one: the C interface passes them so.
 pub fn assembly_matches(bytes: &[u8], parts: &mut [u64], pairs: &mut [u64]) -> Reply
     ensures answer { (result.number ≡ count_number (count_answer bytes.now (length parts.old) (length pairs.old)))
         × (result.place ≡ count_value (count_answer bytes.now (length parts.old) (length pairs.old))) }
@@ -66,8 +69,9 @@ pub fn assembly_matches(bytes: &[u8], parts: &mut [u64], pairs: &mut [u64]) -> R
 
 // score's answer. Number 0: the index, the matches, the states entered, and how many removals the trail has; place is 0. Else the row and its place;
 // the other four are 0.
+// A number for each kind of refusal and no Result, as in Reply.
 #[repr(C)]
-#[derive(Clone, Copy)]
+#[derive(Clone, Copy, Debug, PartialEq, Eq)]
 pub struct ScoreReply {
     pub number: u32,
     pub index: u32,
@@ -112,6 +116,7 @@ impl From<Result<Score, ScoreRefusal>> for ScoreReply {
 }
 
 // score.
+// The setting as numbers and what is lent one by one: the C interface passes them so.
 pub fn assembly_score(
     bytes: &[u8],
     bounds: u32,

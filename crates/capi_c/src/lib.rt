@@ -1,5 +1,6 @@
 #![tactic(auto)]
 // The public calls as C functions: host/pazgelk.h declares them. A &[u8] is a pointer and then a length. Each is the call of its name in `capi`.
+// Twins with the contracts of `capi`: the C interface needs a static library, and other crates cannot stand on one.
 ghost use Rattle.std.specs.Prelude.{◌≡◌, length};
 ghost use Rattle.molecule.specs.Check.{check, number, place};
 ghost use Rattle.canonize.specs.Answer.{number as label_number, value as label_value, label_answer, buffer_after};
@@ -28,6 +29,7 @@ pub extern "C" fn assembly_label(bytes: &[u8], set: u64, out: &mut [u8]) -> Repl
 }
 
 // matches.
+// The tables one by one: the C interface passes them so.
 #[unsafe(no_mangle)]
 pub extern "C" fn assembly_matches(bytes: &[u8], parts: &mut [u64], pairs: &mut [u64]) -> Reply
     ensures answer { (result.number ≡ count_number (count_answer bytes.now (length parts.old) (length pairs.old)))
@@ -39,6 +41,7 @@ pub extern "C" fn assembly_matches(bytes: &[u8], parts: &mut [u64], pairs: &mut 
 }
 
 // score.
+// The setting as numbers and what is lent one by one: the C interface passes them so.
 #[unsafe(no_mangle)]
 pub extern "C" fn assembly_score(
     bytes: &[u8],

@@ -5,12 +5,11 @@ use crate::words::Words;
 
 // Answers the line with these words behind the command.
 pub fn answer<P: Print>(mut words: Words, out: &mut Output<P>) -> Option<()> {
-    let mut space = [0u8; 2048];
-    let record = hex::record(words.next()?, &mut space)?;
+    let record = hex::record(words.next()?)?;
     if !words.is_done() {
         return None;
     }
-    match molecule::check(record) {
+    match molecule::check(&record) {
         Ok(()) => out.print("accepted"),
         Err(fault) => out.refuse(fault),
     }

@@ -5,15 +5,15 @@ use crate::{hex, numbers};
 
 // Answers the line with these words behind the command.
 pub fn answer<P: Print>(mut words: Words, out: &mut Output<P>) -> Option<()> {
-    let mut space = [0u8; 2048];
-    let record = hex::record(words.next()?, &mut space)?;
+    let record = hex::record(words.next()?)?;
     let set = numbers::hex_number(words.next()?)?;
-    let length = numbers::number_to(words.next()?, 1024)?;
+    let length = words.next_number(1024)?;
     if !words.is_done() {
         return None;
     }
+    // An array of the most that may be lent: the memory is fixed, and that of a Vec can fail.
     let mut room = [0u8; 1024];
-    put_label(record, set, &mut room[..length], out);
+    put_label(&record, set, &mut room[..length], out);
     Some(())
 }
 

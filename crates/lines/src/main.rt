@@ -1,6 +1,7 @@
 #![tactic(auto)]
 // Reads a question a line, and answers each on a line.
-use line::Line;
+// Numbers turn by `as`, shown to lose nothing: usize has no From, and a TryFrom would answer an error that never is.
+use arrayvec::ArrayVec;
 use output::Output;
 use std::io::Read;
 use words::Words;
@@ -8,7 +9,6 @@ use words::Words;
 mod check_line;
 mod hex;
 mod label_line;
-mod line;
 mod matches_line;
 mod noise;
 mod numbers;
@@ -20,7 +20,8 @@ mod words;
 #[derive(Drop)]
 struct State<'a, P> {
     number: u64,
-    line: Line,
+    // A line has at most 4096 bytes: where the list is full, it is too long.
+    line: ArrayVec<u8, 4097>,
     out: Output<'a, P>,
 }
 
@@ -29,7 +30,7 @@ impl<'a, P: Print> State<'a, P> {
     fn new(rt: &'a P) -> State<'a, P> {
         State {
             number: 1,
-            line: Line::new(),
+            line: ArrayVec::new(),
             out: Output::new(rt),
         }
     }
@@ -43,14 +44,14 @@ impl<'a, P: Print> State<'a, P> {
         self.out.put(b'\n');
     }
 
-    // Takes one byte in: a newline ends the line.
+    // Takes one byte in: a newline ends the line. A byte that does not fit is dropped.
     fn take(&mut self, b: u8) {
         if b == b'\n' {
             self.answer();
             self.number = self.number.wrapping_add(1);
             self.line.clear();
         } else {
-            self.line.push(b);
+            let _ = self.line.try_push(b);
         }
     }
 
@@ -72,8 +73,11 @@ impl<'a, P: Print> State<'a, P> {
 }
 
 // Answers a line. None: it is unreadable, and nothing was put.
-fn answer_line<P: Print>(line: &Line, out: &mut Output<P>) -> Option<()> {
-    let mut words = Words::new(line.bytes()?);
+fn answer_line<P: Print>(line: &ArrayVec<u8, 4097>, out: &mut Output<P>) -> Option<()> {
+    if line.is_full() {
+        return None;
+    }
+    let mut words = Words::new(line.as_slice());
     match words.next()? {
         b"check" => check_line::answer(words, out),
         b"label" => label_line::answer(words, out),
@@ -84,6 +88,7 @@ fn answer_line<P: Print>(line: &Line, out: &mut Output<P>) -> Option<()> {
 }
 
 // Reads chunk by chunk to the end of the input, or to a read that fails.
+// A count that no input reaches, and no `loop`: every loop is shown to end.
 fn answer_all<P: Print + Input>(rt: &P, state: &mut State<P>) {
     let mut chunk = [0u8; 65536];
     let mut reader = rt.reader();

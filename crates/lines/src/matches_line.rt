@@ -4,25 +4,24 @@ ghost use Rattle.tabulate.specs.Counted.{count_answer, answer_of};
 
 use crate::output::Output;
 use crate::words::Words;
-use crate::{hex, noise, numbers};
+use crate::{hex, noise};
 use tabulate::count;
 use tabulate::count::CountRefusal;
 
 // How many words each table has.
 #[derive(Clone, Copy)]
-pub struct Lengths {
-    pub parts: usize,
-    pub pairs: usize,
+struct Lengths {
+    parts: usize,
+    pairs: usize,
     ghost parts_fit: { parts ≤ 65536 },
     ghost pairs_fit: { pairs ≤ 65536 },
 }
 
 // Answers the line with these words behind the command.
 pub fn answer<P: Print>(mut words: Words, out: &mut Output<P>) -> Option<()> {
-    let mut space = [0u8; 2048];
-    let record = hex::record(words.next()?, &mut space)?;
+    let record = hex::record(words.next()?)?;
     let lengths = table_lengths(words)?;
-    match count_with(record, lengths) {
+    match count_with(&record, lengths) {
         Ok(n) => out.print(format_args!("matches {n}")),
         Err(refusal) => out.refuse(refusal),
     }
@@ -37,8 +36,8 @@ fn table_lengths(mut words: Words) -> Option<Lengths> {
             pairs: 65536,
         });
     }
-    let parts = numbers::number_to(words.next()?, 65536)?;
-    let pairs = numbers::number_to(words.next()?, 65536)?;
+    let parts = words.next_number(65536)?;
+    let pairs = words.next_number(65536)?;
     if !words.is_done() {
         return None;
     }
@@ -46,6 +45,7 @@ fn table_lengths(mut words: Words) -> Option<Lengths> {
 }
 
 // Counts with tables that hold noise.
+// The tables go one by one, as `count` takes them: a struct of the two would be taken apart at once.
 fn count_over(bytes: &[u8], parts: &mut [u64], pairs: &mut [u64]) -> Result<u64, CountRefusal>
     ensures { answer_of result ≡ count_answer bytes.now (length parts.old) (length pairs.old) }
 {
@@ -55,6 +55,7 @@ fn count_over(bytes: &[u8], parts: &mut [u64], pairs: &mut [u64]) -> Result<u64,
 }
 
 // Counts with tables of so many words.
+// Arrays of the most that may be lent: the memory is fixed, and that of a Vec can fail.
 fn count_with(bytes: &[u8], lengths: Lengths) -> Result<u64, CountRefusal>
     ensures { answer_of result ≡ count_answer bytes.now lengths.parts lengths.pairs }
 {

@@ -1,44 +1,48 @@
 // The answers on their way out: they are collected, and written when the buffer is full.
-ghost use Rattle.std.specs.Prelude.{◌≡◌, ◌≤◌};
+ghost use Rattle.std.specs.Prelude.{◌≡◌, ◌<◌, [], ◌∷◌, ◌++◌};
+ghost use Rattle.arrayvec.specs.ArrayVec.{array_vec_len};
 
+use arrayvec::ArrayVec;
 use molecule::Refusal;
 use std::fmt;
 use std::fmt::{Display, Write};
 
 // The answers that are still to be written.
+// A struct of its own: std's BufWriter takes memory, which can fail, and this memory is fixed.
 #[derive(Drop)]
 pub struct Output<'a, P> {
     rt: &'a P,
-    bytes: [u8; 4096],
-    length: usize,
-    ghost within: { length ≤ 4096 },
+    bytes: ArrayVec<u8, 4096>,
 }
 
 impl<'a, P: Print> Output<'a, P> {
     // With nothing to write.
-    pub fn new(rt: &'a P) -> Output<'a, P> {
+    pub fn new(rt: &'a P) -> Output<'a, P>
+        ensures { result.bytes.items ≡ [] }
+    {
         Output {
             rt,
-            bytes: [0; 4096],
-            length: 0,
+            bytes: ArrayVec::new(),
         }
     }
 
     // Writes what was collected. A write that fails is passed over.
     pub fn flush(&mut self)
-        ensures { self.new.length ≡ 0 }
+        ensures { self.new.bytes.items ≡ [] }
     {
-        let _ = self.rt.write_all(&self.bytes[..self.length]);
-        self.length = 0;
+        let _ = self.rt.write_all(self.bytes.as_slice());
+        self.bytes.clear();
     }
 
     // Puts a byte.
-    pub fn put(&mut self, b: u8) {
-        if self.length == 4096 {
+    pub fn put(&mut self, b: u8)
+        ensures room { array_vec_len self.old.bytes < 4096 → self.new.bytes.items ≡ self.old.bytes.items ++ b ∷ [] }
+        ensures full { array_vec_len self.old.bytes ≡ 4096 → self.new.bytes.items ≡ b ∷ [] }
+    {
+        if self.bytes.is_full() {
             self.flush();
         }
-        self.bytes[self.length] = b;
-        self.length += 1;
+        self.bytes.push(b);
     }
 
     // Puts the text of a value. No write to an Output fails.

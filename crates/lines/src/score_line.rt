@@ -3,18 +3,18 @@ ghost use Rattle.std.specs.Prelude.{◌≤◌};
 
 use crate::output::Output;
 use crate::words::Words;
-use crate::{hex, noise, numbers};
+use crate::{hex, noise};
 use assembly::answer::{Score, ScoreRefusal};
 use assembly::{Setting, score};
 
 // How many elements the trail and each table have. The program has room for as many.
 #[derive(Clone, Copy)]
-pub struct Lent {
-    pub trail: usize,
-    pub parts: usize,
-    pub pairs: usize,
-    pub memo: usize,
-    pub desk: usize,
+struct Lent {
+    trail: usize,
+    parts: usize,
+    pairs: usize,
+    memo: usize,
+    desk: usize,
     ghost trail_fits: { trail ≤ 40 },
     ghost parts_fit: { parts ≤ 65536 },
     ghost pairs_fit: { pairs ≤ 65536 },
@@ -24,23 +24,19 @@ pub struct Lent {
 
 // Answers the line with these words behind the command.
 pub fn answer<P: Print>(mut words: Words, out: &mut Output<P>) -> Option<()> {
-    let mut space = [0u8; 2048];
-    let record = hex::record(words.next()?, &mut space)?;
+    let record = hex::record(words.next()?)?;
     let setting = setting_of(&mut words)?;
     let lent = lengths(words)?;
-    put_score(record, setting, lent, out);
+    put_score(&record, setting, lent, out);
     Some(())
 }
 
 // The next three words: each a number in decimal below 2 to the power 32.
 fn setting_of(words: &mut Words) -> Option<Setting> {
-    let bounds = u32::try_from(numbers::decimal_number(words.next()?)?).ok()?;
-    let memo = u32::try_from(numbers::decimal_number(words.next()?)?).ok()?;
-    let budget = u32::try_from(numbers::decimal_number(words.next()?)?).ok()?;
     Some(Setting {
-        bounds,
-        memo,
-        budget,
+        bounds: words.next_u32()?,
+        memo: words.next_u32()?,
+        budget: words.next_u32()?,
     })
 }
 
@@ -55,11 +51,11 @@ fn lengths(mut words: Words) -> Option<Lent> {
             desk: 4096,
         });
     }
-    let trail = numbers::number_to(words.next()?, 40)?;
-    let parts = numbers::number_to(words.next()?, 65536)?;
-    let pairs = numbers::number_to(words.next()?, 65536)?;
-    let memo = numbers::number_to(words.next()?, 163840)?;
-    let desk = numbers::number_to(words.next()?, 5000)?;
+    let trail = words.next_number(40)?;
+    let parts = words.next_number(65536)?;
+    let pairs = words.next_number(65536)?;
+    let memo = words.next_number(163840)?;
+    let desk = words.next_number(5000)?;
     if !words.is_done() {
         return None;
     }
@@ -73,6 +69,7 @@ fn lengths(mut words: Words) -> Option<Lent> {
 }
 
 // Scores with a trail and tables that hold noise.
+// What is lent goes one by one, as `score` takes it: a struct of the five would be taken apart at once.
 fn score_over(
     bytes: &[u8],
     setting: Setting,
@@ -91,6 +88,7 @@ fn score_over(
 }
 
 // Scores with a trail and tables of so many elements, and puts the answer.
+// Arrays of the most that may be lent: the memory is fixed, and that of a Vec can fail.
 fn put_score<P: Print>(bytes: &[u8], setting: Setting, lent: Lent, out: &mut Output<P>) {
     let mut removals = [0u32; 40];
     let mut parts = [0u64; 65536];

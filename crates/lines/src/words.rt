@@ -1,7 +1,9 @@
 // Words of a line: what stands between single spaces.
-ghost use Rattle.std.specs.Prelude.{◌≡◌, ◌↔◌, None, Some, IsTrue};
+ghost use Rattle.std.specs.Prelude.{◌≡◌, ◌≤◌, ◌↔◌, None, Some, IsTrue, IfSome};
 ghost use Rattle.std.specs.Option.{option_copied};
-ghost use Rattle.lines.specs.Words.{TakesWord};
+ghost use Rattle.lines.specs.Words.{TakesWord, TakesNumber};
+
+use crate::numbers;
 
 // The words of a line that are still to be read.
 #[derive(Drop)]
@@ -23,6 +25,21 @@ impl<'a> Words<'a> {
         ensures { IsTrue result ↔ (option_copied self.now.left ≡ None) }
     {
         self.left.is_none()
+    }
+
+    // The next word, as a number in decimal of at most most.
+    pub fn next_number(&mut self, most: usize) -> Option<usize>
+        ensures read { TakesNumber most (option_copied self.old.left) result (option_copied self.new.left) }
+        ensures within { IfSome result (λ n. n ≤ most) }
+    {
+        numbers::number_to(self.next()?, most)
+    }
+
+    // The next word, as a number in decimal below 2 to the power 32.
+    pub fn next_u32(&mut self) -> Option<u32>
+        ensures { TakesNumber 4294967295 (option_copied self.old.left) result (option_copied self.new.left) }
+    {
+        u32::try_from(numbers::decimal_number(self.next()?)?).ok()
     }
 }
 
