@@ -1,5 +1,5 @@
 -- The search's definition one turn at a time: where entering a state leads, and what is found after each child. Assumes nothing, but where a state is entered that the record is accepted.
-use Rattle.std.proofs.Common.{Option, Result, Ok, Err, ◌≡◌, refl, sym, ap, subst, ◌∙◌, ◌⊎◌, inl, inr, Bool, true, false, List, [], ◌∷◌, ℕ, zero, suc, ◌+◌, ◌-◌, ◌≤◌, ◌<◌, min, arith, ltb, leb, length, get_or, lt-ltb, le-ltb}
+use Rattle.std.proofs.Common.{Option, Some, Result, Ok, Err, ◌≡◌, refl, sym, ap, subst, ◌∙◌, ◌⊎◌, inl, inr, Bool, true, false, List, [], ◌∷◌, ℕ, zero, suc, ◌+◌, ◌-◌, ◌≤◌, ◌<◌, min, arith, ltb, leb, length, get_or, lt-ltb, le-ltb}
 use mathlib.Core.List.Memᴰ.{eq_of_singleton as mem_one}
 use mathlib.Core.List.{Memᴰ as Mem}
 use Rattle.bitset.specs.Bits.{size}
@@ -171,9 +171,14 @@ module _ {r : Bytes} (ok : check r ≡ accepted) {setting : Setting} {s : code.S
       rw (p, l) at (T.first r (pairs r) (table_laws r ok) w)
 
   -- it is removable from the pieces held
-  pub turn_chooses : {least n m : ℕ} → FirstIs r (pairs r) (state_of s).pieces least n m → start.from ≤ n → (held : List ℕ) → held ≡ b.held.items → Chooses r s held m
+  turn_chooses : {least n m : ℕ} → FirstIs r (pairs r) (state_of s).pieces least n m → start.from ≤ n → (held : List ℕ) → held ≡ b.held.items → Chooses r s held m
   turn_chooses N a held h =
       record { after = omega (arith, B.after, is.3, ap (λ (x : Removals). x.from) begins, a, N.after); within = N.within; removes = N.removes; keeps = h ∙ B.held }
+
+  -- where there is a next, both
+  pub turn_of : {left next : Removals} {m : ℕ} → Tries left (Some m) next → left.rows.now ≡ start.rows.now → left.owners.now ≡ start.owners.now → left.least ≡ start.least
+      → start.from ≤ left.from → (held : List ℕ) → held ≡ b.held.items → FirstIs r (pairs r) (state_of s).pieces start.least left.from m × Chooses r s held m
+  turn_of T e o l a held h = let N = turn_first T e o l in (N, turn_chooses N a held h)
 
 -- ---- the loop over the removals
 
