@@ -22,7 +22,7 @@ use Rattle.molecule.specs.Record.{bonds, all_bonds}
 use Rattle.molecule.specs.Touch.{touching, grow, reach, parts, is_part, component, components, connected, touching_words}
 use Rattle.molecule.specs.Connected.{Touch, Own, Linked, here, step, Connected, Apart, Ascends}
 use Rattle.molecule.specs.Rounds.{grow_round}
-use Rattle.molecule.proofs.Growing.{Closed, more, round_in, round_keeps, reach_closed, reach_one, reach_sub, reach_same, parts_by, parts_none, parts_step, parts_same, is_part_same}
+use Rattle.molecule.proofs.Growing.{Closed, round_in, round_keeps, reach_closed, reach_one, reach_sub, reach_same, parts_by, parts_none, parts_step, parts_same, is_part_same}
 use Rattle.molecule.proofs.Lists.{list_at}
 use Rattle.molecule.proofs.Touching.{touch_sym}
 
@@ -69,9 +69,6 @@ module _ (r : Bytes) where
       let more : ℕ = grow_round (touching r) s c in
       let wide : (y : ℕ) → bit c y ≡ 1 → Linked r more b y = λ y e. link_wide more (round_keeps (touching r) s c) (p y e) in
       ⊎_elim (λ e. wide x e) (λ w. step (wide w.0 w.1) w.2 h) (round_in (touching r) s c x h)
-
-  links_more : (s b c : ℕ) → Links b c → Links b (more (touching r) s c)
-  links_more s b c p = links_round s b c p
 
   links_grow : (s b f c : ℕ) → Links b c → Links b (grow (touching r) s f c)
   unfolding grow

@@ -49,10 +49,6 @@ module _ (near : ℕ → ℕ) where
   round_has s c x y h t k = ⊎_elim (λ (q : bit c y ≡ 1). sub_in c (grow_round near s c) (round_keeps s c) y q)
       (λ (q : bit c y ≡ 0). or_right_in c (bit_and s (around near c)) y (and_in s (around near c) y k (around_has c x y h t q))) (in_or_out c y)
 
-  -- the part after it
-  abbrev pub more : ℕ → ℕ → ℕ
-  more s c = bit_or c (bit_and s (around near c))
-
   -- ---- so many rounds
 
   fixed_closed : (s c : ℕ) → grow_round near s c ≡ c → Closed s c
@@ -73,9 +69,6 @@ module _ (near : ℕ → ℕ) where
       n (sym (sub_anti c more (round_keeps s c) (sub_of more c (λ i h. ⊎_elim (λ k. k)
       (λ w. omega (arith, w.3, bit_diff s c i, bit_diff s more i, h, ap (λ (z : ℕ). bit z i) e, bit_le c i))
       (round_in s c i h))))))
-
-  step_less : (s c : ℕ) → more s c ≢ c → size (diff s (more s c)) < size (diff s c)
-  step_less s c n = round_less s c n
 
   pub grow_closed : (s f c : ℕ) → size (diff s c) ≤ f → Closed s (grow near s f c)
   unfolding grow

@@ -5,7 +5,6 @@ pub mod Lists
 pub mod Perms
 pub mod SetLists
 pub mod Growing
-pub mod Waiting
 pub mod Touching
 pub mod Components
 pub mod Rounds
