@@ -6,7 +6,7 @@ use Rattle.molecule.specs.Examples.{compute as molecules, times, chain_ends, cha
 use Rattle.canonize.specs.Strings.{same}
 use Rattle.canonize.specs.Examples.{compute as labels}
 use Rattle.matches.specs.Table.{Pair, note, number_of, meet, pair_up, place, not_below, extended, candidates, groups, extend, sizes, singles, match_table, pairs_of, pairs}
-use Rattle.matches.specs.Rows.{overflows, too_many, table_answer}
+use Rattle.matches.specs.Rows.{parts_room, overflows, too_many, table_answer}
 
 -- to unfold it is to unfold every definition
 unfoldable pub compute : Unit {0}
@@ -61,26 +61,26 @@ counts = refl
 
 -- rows 9 and 10: the words of parts, then those of pairs
 pub record Rows : Type 0 where
-  pub parts_95 : table_answer (match_table (chain 4)) 95 4096 ≡ refused 9 2
-  pub parts_96 : table_answer (match_table (chain 4)) 96 4096 ≡ accepted
-  pub pairs_3 : table_answer (match_table (chain 4)) 4096 3 ≡ refused 10 1
-  pub pairs_4 : table_answer (match_table (chain 4)) 4096 4 ≡ accepted
-  pub bonds_63 : table_answer (match_table (chain 4)) 63 4096 ≡ refused 9 1
-  pub unlike_95 : table_answer (match_table (star (6 ∷ 1 ∷ 2 ∷ 3 ∷ 7 ∷ []) 4)) 95 4096 ≡ refused 9 2
-  pub unlike_96 : table_answer (match_table (star (6 ∷ 1 ∷ 2 ∷ 3 ∷ 7 ∷ []) 4)) 96 4096 ≡ accepted
-  pub star_336 : table_answer (match_table (star (times 7 6) 6)) 336 0 ≡ refused 9 3
-  pub star_656 : table_answer (match_table (star (times 7 6) 6)) 656 0 ≡ refused 10 55
+  pub parts_71 : table_answer (match_table (chain 4)) (parts_room 71) 4096 ≡ refused 9 2
+  pub parts_72 : table_answer (match_table (chain 4)) (parts_room 72) 4096 ≡ accepted
+  pub pairs_3 : table_answer (match_table (chain 4)) (parts_room 4096) 3 ≡ refused 10 1
+  pub pairs_4 : table_answer (match_table (chain 4)) (parts_room 4096) 4 ≡ accepted
+  pub bonds_47 : table_answer (match_table (chain 4)) (parts_room 47) 4096 ≡ refused 9 1
+  pub unlike_71 : table_answer (match_table (star (6 ∷ 1 ∷ 2 ∷ 3 ∷ 7 ∷ []) 4)) (parts_room 71) 4096 ≡ refused 9 2
+  pub unlike_72 : table_answer (match_table (star (6 ∷ 1 ∷ 2 ∷ 3 ∷ 7 ∷ []) 4)) (parts_room 72) 4096 ≡ accepted
+  pub star_252 : table_answer (match_table (star (times 7 6) 6)) (parts_room 252) 0 ≡ refused 9 3
+  pub star_492 : table_answer (match_table (star (times 7 6) 6)) (parts_room 492) 0 ≡ refused 10 55
 
 pub rows : Rows
 unfolding compute star_ends star
 rows = record {
-  parts_95 = refl;
-  parts_96 = refl;
+  parts_71 = refl;
+  parts_72 = refl;
   pairs_3 = refl;
   pairs_4 = refl;
-  bonds_63 = refl;
-  unlike_95 = refl;
-  unlike_96 = refl;
-  star_336 = refl;
-  star_656 = refl;
+  bonds_47 = refl;
+  unlike_71 = refl;
+  unlike_72 = refl;
+  star_252 = refl;
+  star_492 = refl;
 }

@@ -3,13 +3,13 @@ use Rattle.std.proofs.Common.{◌≡◌, ap, ◌∙◌, List, ℕ, length, repli
 use Rattle.molecule.specs.Lists.{Bytes}
 use Rattle.molecule.specs.Check.{accepted, refused, check}
 use Rattle.tabulate.specs.Built.{turned_back, build_answer}
-use Rattle.tabulate.specs.Counted.{count_answer, table_after}
+use Rattle.tabulate.specs.Counted.{count_for, table_after}
 
 module _ (r : Bytes) where
   -- an accepted record: the table's answer, and zeros
-  pub count_accepted_lem : check r ≡ accepted → (parts pairs : ℕ) → count_answer r parts pairs ≡ build_answer r parts pairs
-  unfolding count_answer
-  count_accepted_lem ok parts pairs = rw (ok, count_answer)
+  pub count_accepted_lem : check r ≡ accepted → (p pairs : ℕ) → count_for r p pairs ≡ build_answer r p pairs
+  unfolding count_for
+  count_accepted_lem ok p pairs = rw (ok, count_for)
 
   -- so many zeros, where the table had as many words
   pub cleared : check r ≡ accepted → (words : List ℕ) (n : ℕ) (now : List ℕ) → now ≡ replicate n 0 → n ≡ length words → now ≡ table_after r words
@@ -17,10 +17,10 @@ module _ (r : Bytes) where
   cleared ok words n now e same = rw (ok, table_after) (e ∙ ap (λ (k : ℕ). replicate k 0) same)
 
   -- turned back: the row, and what was lent as it was
-  pub count_refused : (k p : ℕ) → check r ≡ refused k p → (parts pairs : ℕ) → turned_back k p ≡ count_answer r parts pairs
-  unfolding count_answer
-  count_refused k p e parts pairs = rw (e, count_answer)
+  pub count_refused : (k place : ℕ) → check r ≡ refused k place → (p pairs : ℕ) → turned_back k place ≡ count_for r p pairs
+  unfolding count_for
+  count_refused k place e p pairs = rw (e, count_for)
 
-  pub after_refused : (k p : ℕ) → check r ≡ refused k p → (words : List ℕ) → words ≡ table_after r words
+  pub after_refused : (k place : ℕ) → check r ≡ refused k place → (words : List ℕ) → words ≡ table_after r words
   unfolding table_after
-  after_refused k p e words = rw (e, table_after)
+  after_refused k place e words = rw (e, table_after)

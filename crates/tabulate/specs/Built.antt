@@ -12,11 +12,11 @@ pub data TableAnswer : Type 0 where
   counted : ℕ → TableAnswer
   turned_back : ℕ → ℕ → TableAnswer
 
--- by rows 9 and 10; the lengths of parts and pairs are in words
+-- by rows 9 and 10, for P and the length of pairs in words
 unfoldable pub build_answer : Bytes → ℕ → ℕ → TableAnswer
-build_answer r parts pairs = elim (table_answer (match_table r) parts pairs) [
+build_answer r p pairs = elim (table_answer (match_table r) p pairs) [
   | accepted ↦ counted (length (match_table r).matches)
-  | refused k p ↦ turned_back k p
+  | refused k place ↦ turned_back k place
 ]
 
 -- a refusal's row of document 01, and its place

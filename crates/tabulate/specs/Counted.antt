@@ -5,6 +5,7 @@ use Rattle.molecule.specs.Check.{accepted, refused, check}
 use Rattle.molecule.specs.Verdict.{number_of, place_of}
 use Rattle.tabulate.specs.declared.count.CountRefusal.{CountRefusal}
 use Rattle.tabulate.specs.declared.count.CountRefusal.TheVariants.{Record, Full}
+use Rattle.matches.specs.Rows.{capacity, parts_each}
 use Rattle.tabulate.specs.Built.{TableAnswer, counted, turned_back, build_answer, full_number, full_place}
 
 -- the number, 0 for a count; and the count or the place
@@ -16,12 +17,19 @@ abbrev pub value : TableAnswer → ℕ
 value (counted n) = n
 value (turned_back k p) = p
 
--- rows 1 to 6, then those of the table; the lengths of parts and pairs are in words
-unfoldable pub count_answer : Bytes → ℕ → ℕ → TableAnswer
-count_answer r parts pairs = elim (check r) [
-  | accepted ↦ build_answer r parts pairs
-  | refused k p ↦ turned_back k p
+-- rows 1 to 6, then those of the table, for P and the length of pairs in words
+unfoldable pub count_for : Bytes → ℕ → ℕ → TableAnswer
+count_for r p pairs = elim (check r) [
+  | accepted ↦ build_answer r p pairs
+  | refused k place ↦ turned_back k place
 ]
+
+-- where P is the length of parts / each; the lengths of parts and pairs are in words
+abbrev pub count_by : ℕ → Bytes → ℕ → ℕ → TableAnswer
+count_by each r parts pairs = count_for r (capacity each parts) pairs
+
+abbrev pub count_answer : Bytes → ℕ → ℕ → TableAnswer
+count_answer = count_by parts_each
 
 -- a lent table afterwards: on rows 1 to 6 nothing changes, else every word is zero
 unfoldable pub table_after : Bytes → List ℕ → List ℕ

@@ -1,6 +1,7 @@
 // The match table of a record, size by size, and its matches written down. Regions of parts as in specs/Inner/Noded.antt.
-ghost use Rattle.std.specs.Prelude.{◌≡◌, ◌*◌, ◌/◌, ◌≤◌, ◌<◌, min, length};
+ghost use Rattle.std.specs.Prelude.{◌≡◌, ◌*◌, ◌≤◌, ◌<◌, length};
 ghost use Rattle.molecule.specs.Record.{bonds};
+ghost use Rattle.matches.specs.Rows.{capacity, parts_room};
 ghost use Rattle.tabulate.specs.Built.{build_answer, answer_of};
 ghost use Rattle.tabulate.specs.Inner.PairsLeft.{pairs_after};
 ghost use Rattle.tabulate.specs.Inner.Walked.{Walked};
@@ -42,7 +43,7 @@ impl Refusal for Full {
 // How many entries of so many words each there is room for, at most 4,294,967,295.
 fn room(words: usize, each: usize) -> usize
     requires { 0 < each }
-    ensures { result ≡ min (words / each) 4294967295 }
+    ensures { result ≡ capacity each words }
 {
     (words / each).min(4_294_967_295)
 }
@@ -74,11 +75,11 @@ fn walk(molecule: &Molecule, parts: &mut [u64], p: usize) -> Result<Done, u64>
 
 // The molecule's matches go to the front of pairs: how many there are.
 pub fn build(molecule: &Molecule, parts: &mut [u64], pairs: &mut [u64]) -> Result<u64, Full>
-    ensures answer { answer_of result ≡ build_answer molecule.now.bytes.now (length parts.old) (length pairs.old) }
-    ensures pairs { pairs.new ≡ pairs_after molecule.now.bytes.now (length parts.old) pairs.old }
+    ensures answer { answer_of result ≡ build_answer molecule.now.bytes.now (parts_room (length parts.old)) (length pairs.old) }
+    ensures pairs { pairs.new ≡ pairs_after molecule.now.bytes.now (parts_room (length parts.old)) pairs.old }
     ensures parts { length parts.new ≡ length parts.old }
 {
-    let p = room(parts.len(), 16);
+    let p = room(parts.len(), 12);
     if p < molecule.bonds() {
         return Err(Full::Parts(1));
     }

@@ -10,9 +10,9 @@ use Rattle.matches.specs.Inner.Written.{words_of}
 unfoldable pub match_words : Bytes → List ℕ
 match_words r = words_of (match_table r).nodes (match_table r).matches
 
--- the words of the matches come first and later ones are untouched; turned back, pairs does not change
+-- for P: the words of the matches come first and later ones are untouched; turned back, pairs does not change
 unfoldable pub pairs_after : Bytes → ℕ → List ℕ → List ℕ
-pairs_after r parts old = elim (table_answer (match_table r) parts (length old)) [
+pairs_after r p old = elim (table_answer (match_table r) p (length old)) [
   | accepted ↦ match_words r ++ drop (length (match_words r)) old
-  | refused k p ↦ old
+  | refused k place ↦ old
 ]
