@@ -11,7 +11,7 @@ use Rattle.molecule.specs.declared.Fault.TheVariants as fault
 use Rattle.molecule.proofs.RowLaws.{row_hit, row_pass}
 use Rattle.molecule.proofs.Lists.{zeros_at}
 use Rattle.matches.specs.Table.{match_table, pairs}
-use Rattle.matches.specs.Rows.{table_answer}
+use Rattle.matches.specs.Rows.{parts_room, table_answer}
 use Rattle.matches.specs.Inner.Written.{Recorded}
 use Rattle.tabulate.specs.Built as built
 use Rattle.tabulate.specs.declared.build.Full.TheVariants as full
@@ -117,12 +117,12 @@ module _ (r : Bytes) (setting : Setting) (room : Room) where
 
 module _ (r : Bytes) (setting : Setting) (room : Room) (entry : entry_answer r setting room ≡ accepted) where
   -- the table's rows
-  pub table_back : (k p : ℕ) → table_answer (match_table r) room.parts room.pairs ≡ refused k p → score_answer r setting room ≡ turned_back k p
+  pub table_back : (k p : ℕ) → table_answer (match_table r) room.p room.pairs ≡ refused k p → score_answer r setting room ≡ turned_back k p
   unfolding score_answer
   table_back k p e = rw (entry, e, score_answer)
 
   -- the search's answer
-  pub table_built : table_answer (match_table r) room.parts room.pairs ≡ accepted → score_answer r setting room ≡ searched (match_table r) (definition.search r (pairs r) setting (memo_room room.memo))
+  pub table_built : table_answer (match_table r) room.p room.pairs ≡ accepted → score_answer r setting room ≡ searched (match_table r) (definition.search r (pairs r) setting (memo_room room.memo))
   unfolding score_answer
   table_built e = rw (entry, e, score_answer)
 
@@ -138,14 +138,14 @@ module _ (r : Bytes) (setting : Setting) (room : Room) (entry : entry_answer r s
       ⊎_elim (λ (w : (j ≡ 11) × (q ≡ setting.budget)). omega (arith, w.0)) (λ (w : (j ≡ 12) × (setting.memo ≡ 1) × (q ≤ setting.budget)). omega (arith, w.0)) f
 
   back_late : (k p : ℕ) → score_answer r setting room ≡ turned_back k p → 9 ≤ k
-  back_late k p e = go (table_answer (match_table r) room.parts room.pairs) refl
+  back_late k p e = go (table_answer (match_table r) room.p room.pairs) refl
     where
-      go : (o : Answer) → table_answer (match_table r) room.parts room.pairs ≡ o → 9 ≤ k
+      go : (o : Answer) → table_answer (match_table r) room.p room.pairs ≡ o → 9 ≤ k
       go accepted q = finished_late (score_answer r setting room) (score.score_ends r setting room entry q) k p e
       go (refused j i) q =
           let f : turned_back j i ≡ turned_back k p = sym (table_back j i q) ∙ e in
           let g : j ≡ k = cc in
-          ⊎_elim (λ (w : j ≡ 9). omega arith) (λ (w : j ≡ 10). omega arith) (table_refused (match_table r) room.parts room.pairs j i q)
+          ⊎_elim (λ (w : j ≡ 9). omega arith) (λ (w : j ≡ 10). omega arith) (table_refused (match_table r) room.p room.pairs j i q)
 
   zeros_after : (words now : List ℕ) → now ≡ replicate (length words) 0 → now ≡ table_after (score_answer r setting room) words
   zeros_after words now e = e ∙ sym (late (score_answer r setting room) back_late words)
@@ -170,29 +170,29 @@ module _ (r : Bytes) (ok : check r ≡ accepted) (setting : Setting) (lent : Loa
 
   module _ (x : Result Score ScoreRefusal) where
     -- turned back by the table: the row, and the trail as it was
-    pub told_table : (k p : ℕ) → answer_of x lent.trail ≡ turned_back k p → built.turned_back k p ≡ built.build_answer r (length lent.parts) (length lent.pairs) → AnswerTold (answer_to r setting lent) x lent.trail lent.trail
+    pub told_table : (k p : ℕ) → answer_of x lent.trail ≡ turned_back k p → built.turned_back k p ≡ built.build_answer r (parts_room (length lent.parts)) (length lent.pairs) → AnswerTold (answer_to r setting lent) x lent.trail lent.trail
     unfolding trail_after
     told_table k p f e =
-        let q = table_back r setting (room_of lent) entry k p (refused_is r (length lent.parts) (length lent.pairs) k p e) in
+        let q = table_back r setting (room_of lent) entry k p (refused_is r (parts_room (length lent.parts)) (length lent.pairs) k p e) in
         record { answer = f ∙ sym q; ends = rw (q, trail_after) }
 
     -- a table that is built: as the search ends
-    pub told_built : (n : ℕ) → built.counted n ≡ built.build_answer r (length lent.parts) (length lent.pairs) → (now : List ℕ) → AnswerTold (search_answer r setting lent.memo) x lent.trail now
+    pub told_built : (n : ℕ) → built.counted n ≡ built.build_answer r (parts_room (length lent.parts)) (length lent.pairs) → (now : List ℕ) → AnswerTold (search_answer r setting lent.memo) x lent.trail now
         → AnswerTold (answer_to r setting lent) x lent.trail now
-    told_built n e now q = rw (table_built r setting (room_of lent) entry (counted_is r (length lent.parts) (length lent.pairs) n e).0) q
+    told_built n e now q = rw (table_built r setting (room_of lent) entry (counted_is r (parts_room (length lent.parts)) (length lent.pairs) n e).0) q
 
 -- a table that is accepted has few matches
-built_few : (r : Bytes) (parts words : ℕ) → table_answer (match_table r) parts words ≡ accepted → length (pairs r) ≤ 4294967295
-built_few r parts words ok = omega (arith, table_fits (match_table r) parts words ok, pairs_length (match_table r))
+built_few : (r : Bytes) (p words : ℕ) → table_answer (match_table r) p words ≡ accepted → length (pairs r) ≤ 4294967295
+built_few r p words ok = omega (arith, table_fits (match_table r) p words ok, pairs_length (match_table r))
 
 -- what the search is given of a table that is built
-pub built_ready : (r : Bytes) (parts : ℕ) (old now : List ℕ) (n : ℕ) → built.counted n ≡ built.build_answer r parts (length old) → now ≡ pairs_after r parts old
+pub built_ready : (r : Bytes) (p : ℕ) (old now : List ℕ) (n : ℕ) → built.counted n ≡ built.build_answer r p (length old) → now ≡ pairs_after r p old
     → Recorded now (pairs r) × (n ≡ length (pairs r)) × (4 * n ≤ length now) × (n ≤ 4294967295)
-built_ready r parts old now n e f =
-    let w = counted_is r parts (length old) n e in
+built_ready r p old now n e f =
+    let w = counted_is r p (length old) n e in
     let c : n ≡ length (pairs r) = w.1 ∙ sym (pairs_length (match_table r)) in
-    let l : length now ≡ length old = ap length f ∙ after_length r parts old w.0 in
-    (rw f (after_recorded r parts old w.0), c, omega (arith, after_room r parts old w.0), omega (arith, built_few r parts (length old) w.0))
+    let l : length now ≡ length old = ap length f ∙ after_length r p old w.0 in
+    (rw f (after_recorded r p old w.0), c, omega (arith, after_room r p old w.0), omega (arith, built_few r p (length old) w.0))
 
 -- ---- the search
 

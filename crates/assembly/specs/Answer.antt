@@ -2,6 +2,7 @@
 use Rattle.std.specs.Prelude.{◌≡◌, List, ℕ, length, take, Result, Ok, Err}
 use Rattle.molecule.specs.Verdict.{number_of, place_of}
 use Rattle.molecule.specs.Lists.{Bytes}
+use Rattle.matches.specs.Rows.{capacity, parts_each}
 use Rattle.search.specs.Setting.{Setting, Room}
 use Rattle.search.specs.Answer.{ScoreAnswer, scored, turned_back, score_answer, trail_after, table_after}
 use Rattle.tabulate.specs.Built.{full_number, full_place}
@@ -43,13 +44,21 @@ pub record Loan : Type 0 where
 abbrev pub loan : List ℕ → List ℕ → List ℕ → List ℕ → List ℕ → Loan
 loan trail parts pairs memo desk = record { trail = trail; parts = parts; pairs = pairs; memo = memo; desk = desk }
 
--- their lengths
-abbrev pub room_of : Loan → Room
-room_of l = record { trail = length l.trail; parts = length l.parts; pairs = length l.pairs; memo = length l.memo; desk = length l.desk }
+-- their room, where P is the length of parts / each
+abbrev pub room_by : ℕ → Loan → Room
+room_by each l = record { trail = length l.trail; p = capacity each (length l.parts); pairs = length l.pairs; memo = length l.memo; desk = length l.desk }
 
--- document 01's answer to a record, a setting and what is lent
+-- by 12 (document 02, 10/14)
+abbrev pub room_of : Loan → Room
+room_of = room_by parts_each
+
+-- document 01's answer to a record, a setting and what is lent, where P is the length of parts / each
+abbrev pub answer_by : ℕ → Bytes → Setting → Loan → ScoreAnswer
+answer_by each r setting lent = score_answer r setting (room_by each lent)
+
+-- by 12
 abbrev pub answer_to : Bytes → Setting → Loan → ScoreAnswer
-answer_to r setting lent = score_answer r setting (room_of lent)
+answer_to = answer_by parts_each
 
 -- after the answer a what was lent is now as document 01 says
 pub record Leaves (a : ScoreAnswer) (lent now : Loan) : Type 0 where

@@ -79,9 +79,9 @@ score_searched r setting room a k n t e = entry (entry_answer r setting room) re
 
     entry : (o : Answer) → entry_answer r setting room ≡ o → FromSearch r setting room a k n t
     entry (refused x y) q = never x y (rw (q, score_answer) at e)
-    entry accepted q = table (table_answer tab room.parts room.pairs) refl
+    entry accepted q = table (table_answer tab room.p room.pairs) refl
       where
-        table : (o : Answer) → table_answer tab room.parts room.pairs ≡ o → FromSearch r setting room a k n t
+        table : (o : Answer) → table_answer tab room.p room.pairs ≡ o → FromSearch r setting room a k n t
         table (refused x y) w = never x y (rw (q, w, score_answer) at e)
         table accepted w = found out refl
           where
@@ -254,7 +254,7 @@ finished setting room t (halts n p) (inl h) c = inl h
 finished setting room t (halts n p) (inr h) c = inr (h.0, eqb-true setting.memo 1 h.1, c)
 
 -- so a record that rows 1 to 10 accept is scored, or turned back on row 11 or 12
-pub score_ends : (r : Bytes) (setting : Setting) (room : Room) → entry_answer r setting room ≡ accepted → table_answer (match_table r) room.parts room.pairs ≡ accepted
+pub score_ends : (r : Bytes) (setting : Setting) (room : Room) → entry_answer r setting room ≡ accepted → table_answer (match_table r) room.p room.pairs ≡ accepted
     → Finished setting (score_answer r setting room)
 unfolding score_answer
 score_ends r setting room e f =

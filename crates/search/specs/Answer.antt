@@ -32,7 +32,7 @@ score_answer r setting room = elim (entry_answer r setting room) [
   | refused number place ↦ turned_back number place
   | accepted ↦
       let t : Table = match_table r in
-      elim (table_answer t room.parts room.pairs) [
+      elim (table_answer t room.p room.pairs) [
         | refused number place ↦ turned_back number place
         | accepted ↦ searched t (search r (pairs_of t) setting (memo_room room.memo))
       ]

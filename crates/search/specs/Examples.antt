@@ -7,6 +7,7 @@ use Rattle.molecule.specs.Examples.{times, chain}
 use Rattle.canonize.specs.Strings.{sort}
 use Rattle.matches.specs.Table.{pair, size_of, pairs}
 use Rattle.matches.specs.Examples.{compute as tables, star_ends, star}
+use Rattle.matches.specs.Rows.{parts_room}
 use Rattle.bounds.specs.Numbers.{ceil_log2}
 use Rattle.bounds.specs.Bounds.{usable_edges, int_term, int_bound, usable_edges_bound, left_out, least_size}
 use Rattle.search.specs.Setting.{Setting, Room}
@@ -56,7 +57,7 @@ boundless memo = record { bounds = 0; memo = memo; budget = 4294967295 }
 
 -- words of parts, pairs and memo; trail and desk as they must be
 abbrev pub lent : ℕ → ℕ → ℕ → Room
-lent parts pairs memo = record { trail = 32; parts = parts; pairs = pairs; memo = memo; desk = 4096 }
+lent parts pairs memo = record { trail = 32; p = parts_room parts; pairs = pairs; memo = memo; desk = 4096 }
 
 -- ample tables
 abbrev pub ample : Room
@@ -88,8 +89,8 @@ starred =
     try oxygen usual ample (scored 3 0 1 []) ∷
     try (chain 4) (with_budget 1) ample (turned_back 11 1) ∷
     try (chain 4) (with_budget 2) ample (scored 2 1 2 (0 ∷ [])) ∷
-    try (chain 4) usual (lent 95 4096 0) (turned_back 9 2) ∷
-    try (chain 4) usual (lent 96 4096 0) (scored 2 1 2 (0 ∷ [])) ∷
+    try (chain 4) usual (lent 71 4096 0) (turned_back 9 2) ∷
+    try (chain 4) usual (lent 72 4096 0) (scored 2 1 2 (0 ∷ [])) ∷
     try (chain 4) usual (lent 4096 3 0) (turned_back 10 1) ∷
     try (chain 4) usual (lent 4096 4 0) (scored 2 1 2 (0 ∷ [])) ∷
     try (chain 5) (boundless 1) (lent 4096 4096 159) (turned_back 12 2) ∷
@@ -105,8 +106,8 @@ starred_rows = refl
 pub other_rows :
     score_answer (chain 4) (record { bounds = 4; memo = 0; budget = 9 }) ample
     ∷ score_answer (chain 4) (record { bounds = 0; memo = 2; budget = 9 }) ample
-    ∷ score_answer (chain 4) usual (record { trail = 31; parts = 4096; pairs = 4096; memo = 0; desk = 4096 })
-    ∷ score_answer (chain 4) usual (record { trail = 32; parts = 4096; pairs = 4096; memo = 0; desk = 4095 })
+    ∷ score_answer (chain 4) usual (record { trail = 31; p = 256; pairs = 4096; memo = 0; desk = 4096 })
+    ∷ score_answer (chain 4) usual (record { trail = 32; p = 256; pairs = 4096; memo = 0; desk = 4095 })
     ∷ score_answer (chain 4) (with_budget 0) ample
     ∷ score_answer (chain 3) (record { bounds = 1; memo = 1; budget = 9 }) (lent 4096 4096 0)
     ∷ score_answer (chain 3) (record { bounds = 0; memo = 1; budget = 9 }) (lent 4096 4096 0)
@@ -132,7 +133,7 @@ pub lent_after_refusals :
     map lent_after
     (score_answer triangle usual ample
     ∷ turned_back 8 0
-    ∷ score_answer (chain 4) usual (lent 95 4096 0)
+    ∷ score_answer (chain 4) usual (lent 71 4096 0)
     ∷ turned_back 10 1
     ∷ turned_back 11 1
     ∷ turned_back 12 2

@@ -1,4 +1,4 @@
--- Document 01, 'Record, setting, capacities': the setting of a search, and the lengths of what is lent to score.
+-- Document 01, 'Record, setting, capacities': the setting of a search, and the room in what is lent to score.
 use Rattle.std.specs.Prelude.{Bool, ◌||◌, ℕ, ◌/◌, eqb}
 use Rattle.search.specs.declared.Setting as code
 
@@ -17,10 +17,10 @@ has_matchable_edges s = eqb s.bounds 2 || eqb s.bounds 3
 abbrev pub has_memo : Setting → Bool
 has_memo s = eqb s.memo 1
 
--- the lengths of the trail, in numbers, and of the four tables, in words
+-- the lengths of the trail, in numbers, and of pairs, memo and desk, in words; of parts it is P that counts
 pub record Room : Type 0 where
   pub trail : ℕ
-  pub parts : ℕ
+  pub p : ℕ
   pub pairs : ℕ
   pub memo : ℕ
   pub desk : ℕ

@@ -1,9 +1,10 @@
 -- count's answer, row by row, and the lent tables afterwards. Assumes nothing.
-use Rattle.std.proofs.Common.{◌≡◌, ap, ◌∙◌, List, ℕ, length, replicate}
+use Rattle.std.proofs.Common.{◌≡◌, ap, ◌∙◌, List, ℕ, ◌/◌, min, length, replicate}
 use Rattle.molecule.specs.Lists.{Bytes}
 use Rattle.molecule.specs.Check.{accepted, refused, check}
+use Rattle.matches.specs.Rows.{capacity}
 use Rattle.tabulate.specs.Built.{turned_back, build_answer}
-use Rattle.tabulate.specs.Counted.{count_for, table_after}
+use Rattle.tabulate.specs.Counted.{count_for, count_by, count_answer, table_after}
 
 module _ (r : Bytes) where
   -- an accepted record: the table's answer, and zeros
@@ -24,3 +25,13 @@ module _ (r : Bytes) where
   pub after_refused : (k place : ℕ) → check r ≡ refused k place → (words : List ℕ) → words ≡ table_after r words
   unfolding table_after
   after_refused k place e words = rw (e, table_after)
+
+-- ---- document 02, 10/14: what is answered depends on the length of parts through P alone
+
+-- two divisors and two lengths of parts that give one P give one count, or row and place
+pub same_count : (r : Bytes) (each by parts others pairs : ℕ) → capacity each parts ≡ capacity by others → count_by each r parts pairs ≡ count_by by r others pairs
+same_count r each by parts others pairs e = ap (λ (p : ℕ). count_for r p pairs) e
+
+-- those of /16 among them
+pub count_as_before : (r : Bytes) (parts others pairs : ℕ) → parts / 12 ≡ others / 16 → count_answer r parts pairs ≡ count_by 16 r others pairs
+count_as_before r parts others pairs e = same_count r 12 16 parts others pairs (ap (λ (p : ℕ). min p 4294967295) e)

@@ -28,6 +28,7 @@ count_for r p pairs = elim (check r) [
 abbrev pub count_by : ℕ → Bytes → ℕ → ℕ → TableAnswer
 count_by each r parts pairs = count_for r (capacity each parts) pairs
 
+-- by 12 (document 02, 10/14)
 abbrev pub count_answer : Bytes → ℕ → ℕ → TableAnswer
 count_answer = count_by parts_each
 

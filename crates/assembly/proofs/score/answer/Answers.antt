@@ -1,6 +1,7 @@
 -- A table that is not built is row 9 or 10; else the answer is the search's.
 use Rattle.std.proofs.Common.{refl, length}
 use Rattle.std.proofs.lemmas.Result.{err_from_is_err_and}
+use Rattle.matches.specs.Rows.{parts_room}
 use Rattle.assembly.specs.Answer.{loan}
 use Rattle.assembly.proofs.Scoring.{told_table, told_built, built_ready}
 use Rattle.assembly.proofs.score.answer.Goals as goal
@@ -15,7 +16,7 @@ pub find-requires : goal.find-requires
 find-requires c =
     let a = c.args in
     let b = c.in_ok-matches.ensures in
-    let w = built_ready a.molecule.now.bytes.now (length a.parts.now) a.pairs.now c.build.new.pairs _ b.answer b.pairs in
+    let w = built_ready a.molecule.now.bytes.now (parts_room (length a.parts.now)) a.pairs.now c.build.new.pairs _ b.answer b.pairs in
     (w.0, w.1, w.2, w.3, c.requires.trail, c.requires.desk)
 
 pub returns : goal.returns

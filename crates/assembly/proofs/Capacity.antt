@@ -1,0 +1,26 @@
+-- Document 02, 10/14: "For equal P, scores, trails and joins are those of /16." What score answers depends on the parts lent through P alone, whatever
+-- each entry is divided by; joins are a function of the record and its trail (search/specs/Pathway). Assumes nothing.
+use Rattle.std.proofs.Common.{◌≡◌, ap, List, ℕ, ◌/◌, min, length}
+use Rattle.molecule.specs.Lists.{Bytes}
+use Rattle.matches.specs.Rows.{capacity}
+use Rattle.search.specs.Setting.{Setting, Room}
+use Rattle.search.specs.Answer.{ScoreAnswer, score_answer, trail_after}
+use Rattle.assembly.specs.Answer.{Loan, loan, room_by, answer_by, answer_to}
+
+module _ (r : Bytes) (setting : Setting) (lent : Loan) (parts : List ℕ) where
+  -- the same with other parts lent
+  abbrev pub other : Loan
+  other = loan lent.trail parts lent.pairs lent.memo lent.desk
+
+  -- two divisors and two lengths of parts that give one P give one answer
+  pub same_answer : (each by : ℕ) → capacity each (length lent.parts) ≡ capacity by (length parts) → answer_by each r setting lent ≡ answer_by by r setting other
+  same_answer each by e = ap (λ (p : ℕ). score_answer r setting (record { trail = length lent.trail; p = p; pairs = length lent.pairs; memo = length lent.memo; desk = length lent.desk })) e
+
+  module _ (e : length lent.parts / 12 ≡ length parts / 16) where
+    -- index, matches, states and removals, or row and place, are those of /16
+    pub answer_as_before : answer_to r setting lent ≡ answer_by 16 r setting other
+    answer_as_before = same_answer 12 16 (ap (λ (p : ℕ). min p 4294967295) e)
+
+    -- and the trail as it is then
+    pub trail_as_before : trail_after (answer_to r setting lent) lent.trail ≡ trail_after (answer_by 16 r setting other) lent.trail
+    trail_as_before = ap (λ (a : ScoreAnswer). trail_after a lent.trail) answer_as_before
