@@ -23,7 +23,7 @@ struct pazgelk_reply assembly_check(const uint8_t *record, size_t length);
 struct pazgelk_reply assembly_label(const uint8_t *record, size_t length, uint64_t set, uint8_t *buffer, size_t room);
 
 /* The number of matches of the record: rows 1 to 6, 9 and 10. The lengths of the two tables are in words of 8 bytes: parts has room for
- * P = parts_words / 16 sets of bonds, and pairs for pairs_words / 4 matches, both rounded down. What the tables hold before does not
+ * P = parts_words / 12 sets of bonds, and pairs for pairs_words / 4 matches, both rounded down. What the tables hold before does not
  * matter. On rows 1 to 6 they are untouched, otherwise every word is 0 afterwards. */
 struct pazgelk_reply assembly_matches(const uint8_t *record, size_t length, uint64_t *parts, size_t parts_words, uint64_t *pairs,
                                       size_t pairs_words);
@@ -41,7 +41,7 @@ struct pazgelk_score {
 
 /* The score of the record: rows 1 to 12. bounds is 0 to 3 (1 Int, 2 MatchableEdges, 3 both), memo is 0 or 1, budget is how many states
  * may be entered. The trail needs 32 numbers and the desk 4,096 words of 8 bytes. The other lengths are in words of 8 bytes too: parts has
- * room for P = parts_words / 16 sets of bonds, pairs for pairs_words / 4 matches, and memo_table for memo_words / 80 states, all rounded
+ * room for P = parts_words / 12 sets of bonds, pairs for pairs_words / 4 matches, and memo_table for memo_words / 80 states, all rounded
  * down; with memo 0 memo_words may be 0. What trail and tables hold before does not matter.
  * Afterwards: of a score the first length numbers of the trail are the removals, the rest of the first 32 are 0, and later ones are
  * untouched; on a row the trail is untouched. On rows 1 to 8 the four tables are untouched, otherwise every word of them is 0. */

@@ -9,7 +9,7 @@ from .engine import Answer, Lengths
 from .model import Result, Settings, Status
 
 # The tables that a search is first lent, in words. They are short, since a call clears every word that it is lent.
-FIRST_PARTS = 16 * 1024
+FIRST_PARTS = 12 * 1024
 FIRST_PAIRS = 4 * 4096
 FIRST_MEMO = 80 * 1024
 MOST_BUDGET = 2**32 - 1

@@ -33,20 +33,20 @@ def test_label() -> None:
 
 
 def test_matches() -> None:
-    assert engine.matches(CHAIN, 96, 4) == Reply(0, 1)
-    assert engine.matches(CHAIN, 95, 4) == Reply(9, 2)
-    assert engine.matches(CHAIN, 96, 3) == Reply(10, 1)
+    assert engine.matches(CHAIN, 72, 4) == Reply(0, 1)
+    assert engine.matches(CHAIN, 71, 4) == Reply(9, 2)
+    assert engine.matches(CHAIN, 72, 3) == Reply(10, 1)
 
 
 def test_score() -> None:
-    assert score(Lengths(96, 4)) == Answer(0, index=2, matches=1, states=2, removals=(0,))
-    assert score(Lengths(95, 4)) == Answer(9, 2)
-    assert score(Lengths(96, 3)) == Answer(10, 1)
+    assert score(Lengths(72, 4)) == Answer(0, index=2, matches=1, states=2, removals=(0,))
+    assert score(Lengths(71, 4)) == Answer(9, 2)
+    assert score(Lengths(72, 3)) == Answer(10, 1)
     assert score(Lengths(0, 0)) == Answer(9, 1)
-    assert score(Lengths(96, 4), budget=1) == Answer(11, 1)
-    assert score(Lengths(96, 4), memo=1) == Answer(12, 1)
-    assert score(Lengths(96, 4, 160), memo=1).index == 2
-    assert score(Lengths(96, 4), bounds=4) == Answer(7)
+    assert score(Lengths(72, 4), budget=1) == Answer(11, 1)
+    assert score(Lengths(72, 4), memo=1) == Answer(12, 1)
+    assert score(Lengths(72, 4, 160), memo=1).index == 2
+    assert score(Lengths(72, 4), bounds=4) == Answer(7)
 
 
 def test_library_that_is_missing(monkeypatch: pytest.MonkeyPatch, tmp_path: Path) -> None:

@@ -61,7 +61,7 @@ def test_tables_grow(monkeypatch: pytest.MonkeyPatch, memo: int) -> None:
     settings = Settings(memo=memo, budget=2000)
     records = [found.record for _, smiles in roast() if isinstance(found := read_smiles(smiles), Structure)]
     usual = [search.search(one, settings) for one in records]
-    monkeypatch.setattr(search, "FIRST_PARTS", 16)
+    monkeypatch.setattr(search, "FIRST_PARTS", 12)
     monkeypatch.setattr(search, "FIRST_PAIRS", 0)
     monkeypatch.setattr(search, "FIRST_MEMO", 80)
     assert [search.search(one, settings) for one in records] == usual

@@ -16,11 +16,7 @@ module _ (r : Bytes) (setting : Setting) (lent : Loan) (parts : List ℕ) where
   pub same_answer : (each by : ℕ) → capacity each (length lent.parts) ≡ capacity by (length parts) → answer_by each r setting lent ≡ answer_by by r setting other
   same_answer each by e = ap (λ (p : ℕ). score_answer r setting (record { trail = length lent.trail; p = p; pairs = length lent.pairs; memo = length lent.memo; desk = length lent.desk })) e
 
-  module _ (e : length lent.parts / 12 ≡ length parts / 16) where
-    -- index, matches, states and removals, or row and place, are those of /16
-    pub answer_as_before : answer_to r setting lent ≡ answer_by 16 r setting other
-    answer_as_before = same_answer 12 16 (ap (λ (p : ℕ). min p 4294967295) e)
-
-    -- and the trail as it is then
-    pub trail_as_before : trail_after (answer_to r setting lent) lent.trail ≡ trail_after (answer_by 16 r setting other) lent.trail
-    trail_as_before = ap (λ (a : ScoreAnswer). trail_after a lent.trail) answer_as_before
+  -- index, matches, states and removals, or row and place, are those of /16; and so is the trail then
+  pub answer_as_before : length lent.parts / 12 ≡ length parts / 16
+      → (answer_to r setting lent ≡ answer_by 16 r setting other) × (trail_after (answer_to r setting lent) lent.trail ≡ trail_after (answer_by 16 r setting other) lent.trail)
+  answer_as_before e = let a = same_answer 12 16 (ap (λ (p : ℕ). min p 4294967295) e) in (a, ap (λ (x : ScoreAnswer). trail_after x lent.trail) a)

@@ -4,9 +4,9 @@ use Rattle.molecule.specs.Lists.{Bytes}
 use Rattle.molecule.specs.Record.{bonds}
 use Rattle.molecule.specs.Check.{Answer, accepted, refused, check}
 use Rattle.matches.specs.Table.{Table, match_table, pairs}
-use Rattle.matches.specs.Rows.{pairs_room, table_answer}
+use Rattle.matches.specs.Rows.{parts_room, pairs_room, table_answer}
 use Rattle.matches.specs.Inner.Written.{words_of, matches_in, StartsBefore, Recorded}
-use Rattle.tabulate.specs.Built.{counted, turned_back, build_answer}
+use Rattle.tabulate.specs.Built.{TableAnswer, counted, turned_back, build_answer}
 use Rattle.tabulate.specs.declared.nodes.Done.{Done}
 use Rattle.tabulate.specs.Inner.PairsLeft.{match_words, pairs_after}
 use Rattle.tabulate.specs.Inner.Walked.{WholeTable, NoRoom}
@@ -106,6 +106,11 @@ module _ (r : Bytes) (p : ℕ) (old : List ℕ) where
           let a = all_fit (match_table r) p (length old) w.fits (omega (arith, w.count)) in
           let f : 4 * m ≡ length (match_words r) = omega (arith, ap length write_matches, words_many r) in
           (ap counted w.count ∙ sym (counts r p (length old) a), e ∙ rw (words_in r ok now p d.nodes w.all w.here w.starts, f) (sym (after_is a)))
+
+-- P is that of the length of parts
+pub by_length : (r : Bytes) (words : ℕ) (old : List ℕ) {p : ℕ} {after : List ℕ} {x : TableAnswer} → p ≡ parts_room words → (x ≡ build_answer r p (length old)) × (after ≡ pairs_after r p old)
+    → (x ≡ build_answer r (parts_room words) (length old)) × (after ≡ pairs_after r (parts_room words) old)
+by_length r words old e w = rw (← e) w
 
 -- ---- for the crates above
 

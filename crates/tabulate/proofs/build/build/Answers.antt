@@ -7,7 +7,7 @@ use Rattle.tabulate.specs.declared.build.Full.{Full}
 use Rattle.tabulate.specs.declared.build.Full.TheVariants.{Parts}
 use Rattle.tabulate.specs.declared.nodes.Done.{Done}
 use Rattle.tabulate.specs.Inner.Walked.{Walked, WholeTable, NoRoom}
-use Rattle.tabulate.proofs.Answering.{over_one, answer_parts, answer_pairs, write_starts, write_room, answer_count}
+use Rattle.tabulate.proofs.Answering.{over_one, by_length, answer_parts, answer_pairs, write_starts, write_room, answer_count}
 use Rattle.tabulate.proofs.build.build.Goals as goal
 
 -- how the loop over sizes ends, where the size that has no room is a refusal
@@ -20,23 +20,23 @@ walked r parts p (Err k) (Err f) w h = (k, h, w)
 pub returns-then-p-bonds : goal.returns-then-p-bonds
 returns-then-p-bonds c =
     let a = c.args in
-    let w = answer_parts a.molecule.now.bytes.now c.room-p.result a.pairs.now 1 (over_one a.molecule.now.bytes.now c.room-p.result (omega arith)) in
-    rw (← c.room-p.ensures) (record { answer = w.0; pairs = w.1; parts = search rules })
+    let w = by_length a.molecule.now.bytes.now (length a.parts.now) a.pairs.now c.room-p.ensures (answer_parts a.molecule.now.bytes.now c.room-p.result a.pairs.now 1 (over_one a.molecule.now.bytes.now c.room-p.result (omega arith))) in
+    record { answer = w.0; pairs = w.1; parts = search rules }
 
 pub returns-in_err-done : goal.returns-in_err-done
 returns-in_err-done c =
     let a = c.args in
     let p = err_from_is_err_and c.from_residual.result c.from_residual.ensures.1 in
     let n = rw c.in_err-done.was at (walked _ _ _ _ _ c.walk.ensures c.map_err.ensures.cases) in
-    let w = answer_parts a.molecule.now.bytes.now c.room-p.result a.pairs.now _ n.2 in
-    rw (p.1, p.2, n.1, ← c.room-p.ensures) (record { answer = w.0; pairs = w.1; parts = search rules })
+    let w = by_length a.molecule.now.bytes.now (length a.parts.now) a.pairs.now c.room-p.ensures (answer_parts a.molecule.now.bytes.now c.room-p.result a.pairs.now _ n.2) in
+    rw (p.1, p.2, n.1) (record { answer = w.0; pairs = w.1; parts = search rules })
 
 pub returns-then-room-total : goal.returns-then-room-total
 returns-then-room-total c =
     let a = c.args in
     let t = rw c.in_ok-done.was at (walked _ _ _ _ _ c.walk.ensures c.map_err.ensures.cases) in
-    let w = answer_pairs a.molecule.now.bytes.now c.room-p.result a.pairs.now t (omega arith) in
-    rw (← c.room-p.ensures) (record { answer = w.0; pairs = w.1; parts = search rules })
+    let w = by_length a.molecule.now.bytes.now (length a.parts.now) a.pairs.now c.room-p.ensures (answer_pairs a.molecule.now.bytes.now c.room-p.result a.pairs.now t (omega arith)) in
+    record { answer = w.0; pairs = w.1; parts = search rules }
 
 pub write-requires : goal.write-requires
 write-requires c =
@@ -53,5 +53,5 @@ returns c =
     let a = c.args in
     let v = c.write.ensures in
     let t = rw c.in_ok-done.was at (walked _ _ _ _ _ c.walk.ensures c.map_err.ensures.cases) in
-    let w = answer_count a.molecule.now.bytes.now c.room-p.result a.pairs.now t a.molecule.now.accepted (omega arith) _ _ v.count v.holds in
-    rw (← c.room-p.ensures) (record { answer = w.0; pairs = w.1; parts = search rules })
+    let w = by_length a.molecule.now.bytes.now (length a.parts.now) a.pairs.now c.room-p.ensures (answer_count a.molecule.now.bytes.now c.room-p.result a.pairs.now t a.molecule.now.accepted (omega arith) _ _ v.count v.holds) in
+    record { answer = w.0; pairs = w.1; parts = search rules }
