@@ -3,9 +3,9 @@
 use Rattle.std.proofs.Common.{◌≡◌, ap, List, ℕ, ◌/◌, min, length}
 use Rattle.molecule.specs.Lists.{Bytes}
 use Rattle.matches.specs.Rows.{capacity}
-use Rattle.search.specs.Setting.{Setting, Room}
+use Rattle.search.specs.Setting.{Setting}
 use Rattle.search.specs.Answer.{ScoreAnswer, score_answer, trail_after}
-use Rattle.assembly.specs.Answer.{Loan, loan, room_by, answer_by, answer_to}
+use Rattle.assembly.specs.Answer.{Loan, loan, answer_by, answer_to}
 
 module _ (r : Bytes) (setting : Setting) (lent : Loan) (parts : List ℕ) where
   -- the same with other parts lent
