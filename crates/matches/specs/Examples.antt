@@ -6,7 +6,7 @@ use Rattle.molecule.specs.Examples.{compute as molecules, times, chain_ends, cha
 use Rattle.canonize.specs.Strings.{same}
 use Rattle.canonize.specs.Examples.{compute as labels}
 use Rattle.matches.specs.Table.{Pair, note, number_of, meet, pair_up, place, not_below, extended, candidates, groups, extend, sizes, singles, match_table, pairs_of, pairs}
-use Rattle.matches.specs.Rows.{parts_room, overflows, too_many, table_answer}
+use Rattle.matches.specs.Rows.{parts_room, pairs_room, overflows, too_many, table_answer}
 
 -- to unfold it is to unfold every definition
 unfoldable pub compute : Unit {0}
@@ -58,6 +58,10 @@ pub counts :
     ≡ 1 ∷ 8 ∷ 17 ∷ 25 ∷ 33 ∷ 41 ∷ 55 ∷ 83 ∷ []
 unfolding compute
 counts = refl
+
+-- P and the pairs capacity: rounded down, and at most 4,294,967,295
+pub rooms : parts_room 71 ∷ parts_room 72 ∷ parts_room 51539607552 ∷ pairs_room 7 ∷ pairs_room 8 ∷ pairs_room 17179869184 ∷ [] ≡ 5 ∷ 6 ∷ 4294967295 ∷ 1 ∷ 2 ∷ 4294967295 ∷ []
+rooms = refl
 
 -- rows 9 and 10: the words of parts, then those of pairs
 pub record Rows : Type 0 where

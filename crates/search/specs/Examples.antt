@@ -106,8 +106,8 @@ starred_rows = refl
 pub other_rows :
     score_answer (chain 4) (record { bounds = 4; memo = 0; budget = 9 }) ample
     ∷ score_answer (chain 4) (record { bounds = 0; memo = 2; budget = 9 }) ample
-    ∷ score_answer (chain 4) usual (record { trail = 31; p = 256; pairs = 4096; memo = 0; desk = 4096 })
-    ∷ score_answer (chain 4) usual (record { trail = 32; p = 256; pairs = 4096; memo = 0; desk = 4095 })
+    ∷ score_answer (chain 4) usual (record { trail = 31; p = parts_room 4096; pairs = 4096; memo = 0; desk = 4096 })
+    ∷ score_answer (chain 4) usual (record { trail = 32; p = parts_room 4096; pairs = 4096; memo = 0; desk = 4095 })
     ∷ score_answer (chain 4) (with_budget 0) ample
     ∷ score_answer (chain 3) (record { bounds = 1; memo = 1; budget = 9 }) (lent 4096 4096 0)
     ∷ score_answer (chain 3) (record { bounds = 0; memo = 1; budget = 9 }) (lent 4096 4096 0)
