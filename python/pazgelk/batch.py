@@ -13,6 +13,7 @@ from collections.abc import Iterable, Iterator
 from concurrent.futures import Executor, Future, wait
 from contextlib import contextmanager
 from dataclasses import dataclass
+from itertools import islice
 from typing import TYPE_CHECKING, Protocol
 
 from . import engine, messages, structures, toolkit
@@ -215,12 +216,13 @@ class _Ticker:
         self._told = time.monotonic()
 
     def tell(self, waiting: deque[_Row]) -> None:
-        """These rows wait; those before them are given."""
+        """These rows wait; those before them are given. The first is the one that is named, so it is not counted, even where it is just done."""
         now = time.monotonic()
         if self._progress is None or not waiting or now - self._told < TICK:
             return
         self._told = now
-        self._progress(waiting[0].number + sum(row.done() for row in waiting), waiting[0].compound)
+        done = sum(row.done() for row in islice(waiting, 1, None))
+        self._progress(waiting[0].number + done, waiting[0].compound)
 
 
 def _results(compounds: Iterator[Compound], settings: Settings, place: _Place, ticker: _Ticker) -> Iterator[Result]:

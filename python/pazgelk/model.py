@@ -98,7 +98,7 @@ class Compound:
 
 
 Progress = Callable[[int, Compound], None]
-"""What score_many tells while it works: how many rows are finished, and the compound that is waited for.
+"""What score_many tells while it works: how many rows are finished, and the compound that is waited for, which is none of them.
 
 It is called when a row is finished and several times a second while a search runs, in the thread that asks for rows.
 """

@@ -8,6 +8,7 @@ import threading
 import time
 from collections import Counter
 from concurrent.futures import Executor, Future, ProcessPoolExecutor, ThreadPoolExecutor
+from concurrent.futures import wait as wait_until
 from multiprocessing import get_context
 
 import pytest
@@ -97,7 +98,12 @@ def test_results_come_before_the_list_ends() -> None:
     results.close()  # type: ignore[attr-defined]
 
 
-def test_progress() -> None:
+@pytest.mark.parametrize("late", [False, True])
+def test_progress(monkeypatch: pytest.MonkeyPatch, late: bool) -> None:
+    """Late: it is told when the search is done already, whose compound it still names."""
+    if late:
+        monkeypatch.setattr(batch, "TICK", 0)
+        monkeypatch.setattr(batch, "wait", lambda futures, timeout: wait_until(futures))
     told: list[tuple[int, str]] = []
     compounds = [Compound("ethanol", "CCO"), Compound("endless", ENDLESS), Compound("benzene", "c1ccccc1"), Compound("propane", "CCC")]
     results = list(score_many(compounds, Settings(time=1.5), jobs=2, progress=lambda done, now: told.append((done, now.name))))
