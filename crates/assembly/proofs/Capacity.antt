@@ -17,6 +17,6 @@ module _ (r : Bytes) (setting : Setting) (lent : Loan) (parts : List ℕ) where
   same_answer each by e = ap (λ (p : ℕ). score_answer r setting (record { trail = length lent.trail; p = p; pairs = length lent.pairs; memo = length lent.memo; desk = length lent.desk })) e
 
   -- index, matches, states and removals, or row and place, are those of /16; and so is the trail then
-  pub answer_as_before : length lent.parts / 12 ≡ length parts / 16
+  pub answer_by_sixteen : length lent.parts / 12 ≡ length parts / 16
       → (answer_to r setting lent ≡ answer_by 16 r setting other) × (trail_after (answer_to r setting lent) lent.trail ≡ trail_after (answer_by 16 r setting other) lent.trail)
-  answer_as_before e = let a = same_answer 12 16 (ap (λ (p : ℕ). min p 4294967295) e) in (a, ap (λ (x : ScoreAnswer). trail_after x lent.trail) a)
+  answer_by_sixteen e = let a = same_answer 12 16 (ap (λ (p : ℕ). min p 4294967295) e) in (a, ap (λ (x : ScoreAnswer). trail_after x lent.trail) a)

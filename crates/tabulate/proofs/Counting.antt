@@ -33,5 +33,5 @@ pub same_count : (r : Bytes) (each by parts others pairs : ℕ) → capacity eac
 same_count r each by parts others pairs e = ap (λ (p : ℕ). count_for r p pairs) e
 
 -- those of /16 among them
-pub count_as_before : (r : Bytes) (parts others pairs : ℕ) → parts / 12 ≡ others / 16 → count_answer r parts pairs ≡ count_by 16 r others pairs
-count_as_before r parts others pairs e = same_count r 12 16 parts others pairs (ap (λ (p : ℕ). min p 4294967295) e)
+pub count_by_sixteen : (r : Bytes) (parts others pairs : ℕ) → parts / 12 ≡ others / 16 → count_answer r parts pairs ≡ count_by 16 r others pairs
+count_by_sixteen r parts others pairs e = same_count r 12 16 parts others pairs (ap (λ (p : ℕ). min p 4294967295) e)
