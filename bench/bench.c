@@ -11,7 +11,7 @@
 
 #include "../host/pazgelk.h"
 
-enum { LINE = 65536, RECORD = 4096, TRAIL = 32, DESK = 4096 };
+enum { LINE = 65536, RECORD = 4096, ARRAY = 32, TRAIL = 2 * ARRAY, DESK = 4096 };
 
 struct table {
     uint64_t *words;

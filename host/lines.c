@@ -8,7 +8,7 @@
 
 #include "pazgelk.h"
 
-enum { LINE = 4096, BUFFER = 1024, TRAIL = 40, CLEARED = 32 };
+enum { LINE = 4096, BUFFER = 1024, TRAIL = 72, ARRAY = 32 };
 
 /* A table that may be lent: how many words it has, how many are lent where a line does not say, and the words. */
 struct table {
@@ -153,16 +153,32 @@ static void hold(const struct table *table, int cleared, uint64_t lent)
             broken(table->name, i, i < zeros ? "not cleared" : "touched");
 }
 
-/* The trail after a call: of a score with k removals those after the first k are 0 up to 32; all others are as they were filled. */
-static void hold_trail(const uint32_t *trail, int scored, size_t k)
+/* The trail after a score with k removals: two arrays of 32, in each k numbers that the call has written and then zeros. Bonds less one is index
+ * plus the sum of (size less one). Later numbers are as they were filled. */
+static void hold_scored(const uint32_t *trail, struct pazgelk_score reply, uint32_t bonds)
 {
-    if (scored && k > CLEARED)
-        broken("trail", k, "past the first 32");
-    for (size_t i = scored ? k : 0; i < TRAIL; i++) {
-        int zero = scored && i < CLEARED;
-        if (trail[i] != (zero ? 0 : (uint32_t)noise(i)))
-            broken("trail", i, zero ? "not 0" : "touched");
+    uint64_t sum = (uint64_t)reply.index + 1;
+    if (reply.length > ARRAY)
+        broken("trail", reply.length, "past the first 32");
+    for (size_t i = 0; i < TRAIL; i++) {
+        int written = i < 2 * ARRAY;
+        if (written && i % ARRAY < reply.length)
+            continue;
+        if (trail[i] != (written ? 0 : (uint32_t)noise(i)))
+            broken("trail", i, written ? "not 0" : "touched");
     }
+    for (size_t i = ARRAY; i < ARRAY + reply.length; i++)
+        sum += (uint64_t)trail[i] - 1;
+    if (sum != bonds)
+        broken("trail", ARRAY, "not a size that fits the index");
+}
+
+/* The trail after a row: as it was filled. */
+static void hold_trail(const uint32_t *trail)
+{
+    for (size_t i = 0; i < TRAIL; i++)
+        if (trail[i] != (uint32_t)noise(i))
+            broken("trail", i, "touched");
 }
 
 /* A length in decimal that the table has. */
@@ -200,7 +216,7 @@ static int answer_score(char **words, int n)
 {
     uint8_t record[LINE / 2];
     uint32_t trail[TRAIL];
-    uint64_t setting[3], numbers = CLEARED, lent[4];
+    uint64_t setting[3], numbers = 2 * ARRAY, lent[4];
     ssize_t length = bytes_of(words[1], record);
     if (length < 0)
         return 0;
@@ -221,7 +237,10 @@ static int answer_score(char **words, int n)
     struct pazgelk_score reply =
         assembly_score(record, (size_t)length, (uint32_t)setting[0], (uint32_t)setting[1], (uint32_t)setting[2], trail, (size_t)numbers,
                        parts.words, (size_t)lent[0], pairs.words, (size_t)lent[1], memo.words, (size_t)lent[2], desk.words, (size_t)lent[3]);
-    hold_trail(trail, reply.number == 0, reply.length);
+    if (reply.number == 0)
+        hold_scored(trail, reply, record[1]);
+    else
+        hold_trail(trail);
     for (int i = 0; i < 4; i++)
         hold(tables[i], reply.number == 0 || reply.number > 8, lent[i]);
     if (reply.number != 0) {
@@ -231,6 +250,8 @@ static int answer_score(char **words, int n)
     printf("scored %u %llu %u %u", reply.index, (unsigned long long)reply.matches, reply.states, reply.length);
     for (size_t i = 0; i < reply.length; i++)
         printf(" %u", trail[i]);
+    for (size_t i = 0; i < reply.length; i++)
+        printf(" %u", trail[ARRAY + i]);
     putchar('\n');
     return 1;
 }

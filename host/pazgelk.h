@@ -40,11 +40,13 @@ struct pazgelk_score {
 };
 
 /* The score of the record: rows 1 to 12. bounds is 0 to 3 (1 Int, 2 MatchableEdges, 3 both), memo is 0 or 1, budget is how many states
- * may be entered. The trail needs 32 numbers and the desk 4,096 words of 8 bytes. The other lengths are in words of 8 bytes too: parts has
+ * may be entered. The trail needs 64 numbers and the desk 4,096 words of 8 bytes. The other lengths are in words of 8 bytes too: parts has
  * room for P = parts_words / 12 sets of bonds, pairs for pairs_words / 4 matches, and memo_table for memo_words / 80 states, all rounded
  * down; with memo 0 memo_words may be 0. What trail and tables hold before does not matter.
- * Afterwards: of a score the first length numbers of the trail are the removals, the rest of the first 32 are 0, and later ones are
- * untouched; on a row the trail is untouched. On rows 1 to 8 the four tables are untouched, otherwise every word of them is 0. */
+ * Afterwards: of a score the trail has two arrays of 32, one after the other: the numbers of the length matches removed, from 0, and the
+ * sizes of their fragments, in bonds, from 32; the rest of either is 0, and numbers from 64 on are untouched. Bonds less one is index plus
+ * the sum of (size less one). On a row the trail is untouched. On rows 1 to 8 the four tables are untouched, otherwise every word of them
+ * is 0. */
 struct pazgelk_score assembly_score(const uint8_t *record, size_t length, uint32_t bounds, uint32_t memo, uint32_t budget, uint32_t *trail,
                                     size_t trail_numbers, uint64_t *parts, size_t parts_words, uint64_t *pairs, size_t pairs_words,
                                     uint64_t *memo_table, size_t memo_words, uint64_t *desk, size_t desk_words);

@@ -17,7 +17,7 @@ from typing import TYPE_CHECKING
 
 from . import batch, engine, messages
 from .batch import score_many
-from .model import Checked, Compound, NotReady, Result, Settings, Status
+from .model import Checked, Compound, NotReady, Removal, Result, Settings, Status
 from .searcher import search_in_child
 from .structures import Structure
 
@@ -29,6 +29,7 @@ __all__ = [
     "Checked",
     "Compound",
     "NotReady",
+    "Removal",
     "Result",
     "Settings",
     "Status",
@@ -45,6 +46,8 @@ def score(compound: Compound | str | Chem.Mol, settings: Settings = Settings()) 
     >>> result = score("CCCCC")
     >>> result.status.value, result.score, result.bonds
     ('scored', 2, 4)
+    >>> result.removals
+    (Removal(match=0, size=2),)
     """
     structure = batch.read_given(compound)
     if isinstance(structure, Result):

@@ -132,7 +132,7 @@ def _score_options(commands: argparse._SubParsersAction[Parser]) -> None:
     add = group.add_argument
     add("--against", metavar="COLUMN", help="compare with the numbers of this column")
     add("--sort", choices=["score"], help="the highest score first, and what has none at the end")
-    add("--details", action="store_true", help="matches, states and removals, and the engine's row and place")
+    add("--details", action="store_true", help="matches, states, each removal as match number(size), and the engine's row and place")
     add("--quiet", action="store_true", help="neither progress nor summary")
 
     usual = Settings()

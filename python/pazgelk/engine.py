@@ -9,15 +9,17 @@ import ctypes
 import functools
 import mmap
 import os
+from collections.abc import Sequence
 from dataclasses import dataclass
 from pathlib import Path
 from typing import Any, NamedTuple
 
 from . import messages
-from .model import NotReady
+from .model import NotReady, Removal
 
 LIBRARY = "libpazgelk.so"
-TRAIL_NUMBERS = 32
+MOST_REMOVALS = 32
+TRAIL_NUMBERS = 2 * MOST_REMOVALS
 DESK_WORDS = 4096
 LABEL_BYTES = 389
 WORD = 8
@@ -39,7 +41,7 @@ class Answer:
     index: int = 0
     matches: int = 0
     states: int = 0
-    removals: tuple[int, ...] = ()
+    removals: tuple[Removal, ...] = ()
 
 
 class Table:
@@ -145,7 +147,13 @@ def score(record: bytes, *, bounds: int, memo: int, budget: int, lengths: Length
     )
     if reply.number:
         return Answer(reply.number, reply.place)
-    return Answer(0, 0, reply.index, reply.matches, reply.states, tuple(trail[: reply.length]))
+    return Answer(0, 0, reply.index, reply.matches, reply.states, _removals(trail[:], reply.length))
+
+
+def _removals(trail: Sequence[int], length: int) -> tuple[Removal, ...]:
+    """The removals of a trail: two arrays, match numbers and then sizes, with so many of each."""
+    numbers, sizes = trail[:MOST_REMOVALS], trail[MOST_REMOVALS:]
+    return tuple(map(Removal, numbers[:length], sizes[:length]))
 
 
 def _lent(*tables: Table) -> list[int]:

@@ -6,7 +6,7 @@ import math
 from collections.abc import Callable
 from dataclasses import dataclass
 from enum import Enum
-from typing import TYPE_CHECKING
+from typing import TYPE_CHECKING, NamedTuple
 
 from . import messages
 from .errors import NotStarted
@@ -36,6 +36,17 @@ class Status(str, Enum):
     UNREADABLE = "unreadable"
 
 
+class Removal(NamedTuple):
+    """A removal of the trail: the number of the match removed, and the bonds of its fragment. Shown as number(size)."""
+
+    match: int
+    size: int
+
+    def __str__(self) -> str:
+        """As a cell shows it: a spreadsheet reads 4(2) as text, where it would read 4:2 as a time and 4/2 as a date."""
+        return f"{self.match}({self.size})"
+
+
 @dataclass(frozen=True)
 class Result:
     """The answer to one compound. `score` is None unless the status is scored."""
@@ -47,7 +58,7 @@ class Result:
     note: str = ""
     matches: int | None = None
     states: int | None = None
-    removals: tuple[int, ...] = ()
+    removals: tuple[Removal, ...] = ()
     row: int | None = None
     place: int | None = None
     at_most: bool = False

@@ -79,7 +79,7 @@ class Layout:
         """A line without its remark."""
         cells = [left(fitted(name, self.name), self.name), right(score, 5), left(status, 13), right(bonds, 5)]
         if self.details:
-            cells += [right(details[0], 7), right(details[1], 8), left(fitted(details[2], 12), 12)]
+            cells += [right(details[0], 7), right(details[1], 8), left(fitted(details[2], 16), 16)]
         if self.against:
             cells += [right(fitted(old, 6), 6), left(compared, 18)]
         return "  ".join(cells)
@@ -100,7 +100,7 @@ class Layout:
             "-" if result.score is None else str(result.score),
             result.status.value,
             numbers[0],
-            (numbers[1], numbers[2], " ".join(str(number) for number in result.removals)),
+            (numbers[1], numbers[2], " ".join(str(removal) for removal in result.removals)),
             old,
             compared.value if compared else "",
         )

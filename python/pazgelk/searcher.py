@@ -19,7 +19,7 @@ from pathlib import Path
 from typing import IO, Any
 
 from . import engine, messages
-from .model import Result, Settings, Status
+from .model import Removal, Result, Settings, Status
 
 # How long a child process may take to start, in seconds.
 START_TIME = 60.0
@@ -178,7 +178,7 @@ def result_line(result: Result) -> bytes:
 def result_of(line: bytes) -> Result:
     """The result that a line holds."""
     fields: dict[str, Any] = json.loads(line)
-    fields.update(status=Status(fields["status"]), removals=tuple(fields["removals"]))
+    fields.update(status=Status(fields["status"]), removals=tuple(Removal(*removal) for removal in fields["removals"]))
     return Result(**fields)
 
 

@@ -180,7 +180,9 @@ def test_details_sort_and_memo(tmp_path: Path, capfd: Captured) -> None:
     status, out, error = run(capfd, "score", "a.csv", "--details", "--sort", "score", "--memo", "1", "--budget", "50")
     rows = table(out)
     assert [row["name"] for row in rows] == ["high", "low", "cut", "ring"]
-    assert rows[0]["pz_matches"] == "14" and rows[0]["pz_removals"] and "at most" in rows[0]["pz_note"]
+    assert rows[0]["pz_matches"] == "14" and "at most" in rows[0]["pz_note"]
+    sizes = [int(removal.partition("(")[2][:-1]) for removal in rows[0]["pz_removals"].split()]
+    assert sizes and int(rows[0]["pz_bonds"]) - 1 == int(rows[0]["pz_score"]) + sum(size - 1 for size in sizes)
     assert (rows[2]["pz_row"], rows[2]["pz_place"], status) == ("11", "50", 1)
     assert "--budget" in rows[2]["pz_reason"] and "at most" in error
 

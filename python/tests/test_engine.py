@@ -8,7 +8,7 @@ import pytest
 
 from pazgelk import engine
 from pazgelk.engine import Answer, Lengths, Reply
-from pazgelk.model import NotReady
+from pazgelk.model import NotReady, Removal
 
 CHAIN = bytes.fromhex("05040606060606000101020203030401010101")
 TRIANGLE = bytes.fromhex("040306060606000101020200010101")
@@ -39,7 +39,7 @@ def test_matches() -> None:
 
 
 def test_score() -> None:
-    assert score(Lengths(72, 4)) == Answer(0, index=2, matches=1, states=2, removals=(0,))
+    assert score(Lengths(72, 4)) == Answer(0, index=2, matches=1, states=2, removals=(Removal(0, 2),))
     assert score(Lengths(71, 4)) == Answer(9, 2)
     assert score(Lengths(72, 3)) == Answer(10, 1)
     assert score(Lengths(0, 0)) == Answer(9, 1)

@@ -12,11 +12,11 @@ import pytest
 from pazgelk import tables
 from pazgelk.compare import Compared
 from pazgelk.errors import NotStarted
-from pazgelk.model import Result, Status
+from pazgelk.model import Removal, Result, Status
 from pazgelk.tables import Table, answers, output
 from test_tables import block
 
-SCORED = Result(Status.SCORED, 3, 5, matches=1, states=2, removals=(0, 4))
+SCORED = Result(Status.SCORED, 3, 5, matches=1, states=2, removals=(Removal(0, 3), Removal(14, 2)))
 CUT_OFF = Result(Status.CUT_OFF, None, 52, "the budget is spent", row=11, place=100)
 
 
@@ -49,6 +49,11 @@ def test_style_is_kept(tmp_path: Path, delimiter: str, newline: str, mark: str, 
     said.append(rows[1] + delimiter + delimiter.join(["3", "scored", "5", "", ""]))
     said.append(rows[2] + delimiter + delimiter.join(["cut off", "cut off", "52", "the budget is spent", ""]))
     assert written("csv", table, SCORED, CUT_OFF) == (mark + newline.join(said) + newline).encode(encoding)
+
+
+def test_details_show_each_removal_with_its_size() -> None:
+    assert answers.cells(SCORED, None, details=True)[-5:] == (1, 2, "0(3) 14(2)", "", "")
+    assert answers.cells(CUT_OFF, None, details=True)[-5:] == ("", "", "", 11, 100)
 
 
 def test_what_stands_above_the_header_is_kept(tmp_path: Path) -> None:
@@ -107,7 +112,7 @@ def test_score_is_never_empty_and_never_zero_without_one() -> None:
 def test_details_and_comparison() -> None:
     names = answers.columns(details=True, against=True, taken=["pz_score", "name"])
     assert names[0] == "pz_score_2" and names[-1] == "pz_compare" and len(names) == 11
-    assert answers.cells(SCORED, Compared.SAME, details=True)[5:] == (1, 2, "0 4", "", "", "same")
+    assert answers.cells(SCORED, Compared.SAME, details=True)[5:] == (1, 2, "0(3) 14(2)", "", "", "same")
     assert answers.cells(CUT_OFF, None, details=True)[5:] == ("", "", "", 11, 100)
 
 

@@ -8,7 +8,7 @@ import pytest
 
 from pazgelk import report
 from pazgelk.compare import Compared
-from pazgelk.model import Compound, Result, Status
+from pazgelk.model import Compound, Removal, Result, Status
 
 
 class Terminal(io.StringIO):
@@ -70,9 +70,9 @@ def test_colour_only_where_there_is_one(monkeypatch: pytest.MonkeyPatch) -> None
 
 
 def test_details_and_comparison_have_columns() -> None:
-    result = Result(Status.SCORED, 3, 5, matches=7, states=9, removals=(0, 4))
+    result = Result(Status.SCORED, 3, 5, matches=7, states=9, removals=(Removal(0, 3), Removal(14, 2)))
     line = layout("a", details=True, against=True).row(Compound("a"), result, "0", Compared.OLD_ZERO)
-    assert line.split()[:2] == ["a", "3"] and "7" in line and "0 4" in line and line.endswith("old 0 was no score")
+    assert line.split()[:2] == ["a", "3"] and "7" in line and "0(3) 14(2)" in line and line.endswith("old 0 was no score")
 
 
 def test_progress_is_silent_at_first(monkeypatch: pytest.MonkeyPatch) -> None:

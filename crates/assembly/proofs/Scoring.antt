@@ -1,5 +1,5 @@
 -- score's answer, row by row, what is lent to it afterwards, and demand 3. Assumes nothing.
-use Rattle.std.proofs.Common.{◌≡◌, Result, Ok, Err, refl, sym, ap, ◌∙◌, Bool, true, false, ◌||◌, ⊎_elim, List, [], ◌++◌, ℕ, ◌-◌, ◌*◌, ◌≤◌, ◌<◌, arith, length, take, drop, replicate, take_at, ltb, lt-ltb, le-ltb, le-leb}
+use Rattle.std.proofs.Common.{◌≡◌, Result, Ok, Err, refl, sym, ap, ◌∙◌, Bool, true, false, ◌||◌, ⊎_elim, List, [], ℕ, ◌*◌, ◌≤◌, ◌<◌, arith, length, replicate, ltb, lt-ltb, le-ltb, le-leb}
 use Rattle.std.proofs.Math.ListN.{length-replicate}
 use borrow.Author.Tests.{lt-leb}
 use Rattle.bitset.proofs.Bools.{or_left, or_right}
@@ -20,6 +20,8 @@ use Rattle.matches.proofs.Laws.{pairs_length, table_refused, table_fits}
 use Rattle.tabulate.proofs.Answering.{counted_is, refused_is, after_room, after_recorded, after_length}
 use Rattle.search.specs.Setting.{Setting, Room, memo_room}
 use Rattle.search.specs.Memo.{Entry}
+use Rattle.search.specs.Trail.{Trail, written, read}
+use Rattle.search.proofs.Written.{read_written}
 use Rattle.search.specs.Search as definition
 use Rattle.search.specs.Answer.{ScoreAnswer, scored, turned_back, entry_answer, searched, score_answer, trail_after, table_after}
 use Rattle.search.specs.Answer.{Finished}
@@ -32,7 +34,8 @@ use Rattle.recurse.specs.declared.visit.Halt.TheVariants as halt
 use Rattle.recurse.specs.declared.visit.Found.{Found}
 use Rattle.desk.specs.Inner.Cached.{Cached}
 use Rattle.memoize.specs.Inner.Stored.{Stored}
-use Rattle.recurse.specs.Inner.Follows.{found_as, halted_as}
+use Rattle.recurse.specs.Inner.Follows.{run_of, found_as, halted_as}
+use Rattle.state.specs.Inner.Views.{trail_of}
 use Rattle.assembly.specs.Answer.{refusal_number, Loan, room_of, answer_of, answer_to, Leaves}
 use Rattle.assembly.specs.Contract.{Answers}
 use Rattle.assembly.specs.Inner.Parts.{search_answer, AnswerTold, Admitted, TablesZero}
@@ -78,12 +81,12 @@ module _ (r : Bytes) (setting : Setting) (room : Room) where
 
   module _ (ok : check r ≡ accepted) where
     seven : (b : Bool) → (ltb 3 setting.bounds || ltb 1 setting.memo) ≡ b
-        → entry_answer r setting room ≡ row 7 0 b (row 8 0 (ltb room.trail 32 || ltb room.desk 4096) accepted)
+        → entry_answer r setting room ≡ row 7 0 b (row 8 0 (ltb room.trail 64 || ltb room.desk 4096) accepted)
     unfolding entry_answer
     seven b e = rw (ok, e, entry_answer)
 
     row_seven : (ltb 3 setting.bounds || ltb 1 setting.memo) ≡ true → Early (score_answer r setting room) 7 0
-    row_seven e = early 7 0 (omega arith) (seven true e ∙ row_hit 7 0 true (row 8 0 (ltb room.trail 32 || ltb room.desk 4096) accepted) refl)
+    row_seven e = early 7 0 (omega arith) (seven true e ∙ row_hit 7 0 true (row 8 0 (ltb room.trail 64 || ltb room.desk 4096) accepted) refl)
 
     -- row 7
     pub bounds_back : 3 < setting.bounds → Early (score_answer r setting room) 7 0
@@ -96,22 +99,22 @@ module _ (r : Bytes) (setting : Setting) (room : Room) where
       not_seven : (ltb 3 setting.bounds || ltb 1 setting.memo) ≡ false
       not_seven = rw (le-ltb 3 setting.bounds few, le-ltb 1 setting.memo one)
 
-      eight : (b : Bool) → (ltb room.trail 32 || ltb room.desk 4096) ≡ b → entry_answer r setting room ≡ row 8 0 b accepted
-      eight b e = rw (← e) (seven false not_seven ∙ row_pass 7 0 false (row 8 0 (ltb room.trail 32 || ltb room.desk 4096) accepted) refl)
+      eight : (b : Bool) → (ltb room.trail 64 || ltb room.desk 4096) ≡ b → entry_answer r setting room ≡ row 8 0 b accepted
+      eight b e = rw (← e) (seven false not_seven ∙ row_pass 7 0 false (row 8 0 (ltb room.trail 64 || ltb room.desk 4096) accepted) refl)
 
-      row_eight : (ltb room.trail 32 || ltb room.desk 4096) ≡ true → Early (score_answer r setting room) 8 0
+      row_eight : (ltb room.trail 64 || ltb room.desk 4096) ≡ true → Early (score_answer r setting room) 8 0
       row_eight e = early 8 0 (omega arith) (eight true e ∙ row_hit 8 0 true accepted refl)
 
       -- row 8
-      pub trail_back : room.trail < 32 → Early (score_answer r setting room) 8 0
-      trail_back h = row_eight (or_left (ltb room.trail 32) (ltb room.desk 4096) (lt-ltb room.trail 32 h))
+      pub trail_back : room.trail < 64 → Early (score_answer r setting room) 8 0
+      trail_back h = row_eight (or_left (ltb room.trail 64) (ltb room.desk 4096) (lt-ltb room.trail 64 h))
 
       pub desk_back : room.desk < 4096 → Early (score_answer r setting room) 8 0
-      desk_back h = row_eight (or_right (ltb room.trail 32) (ltb room.desk 4096) (lt-ltb room.desk 4096 h))
+      desk_back h = row_eight (or_right (ltb room.trail 64) (ltb room.desk 4096) (lt-ltb room.desk 4096 h))
 
       -- none of rows 1 to 8
-      pub entry_accepts : 32 ≤ room.trail → 4096 ≤ room.desk → entry_answer r setting room ≡ accepted
-      entry_accepts h g = eight false (rw (le-ltb room.trail 32 h, le-ltb room.desk 4096 g)) ∙ row_pass 8 0 false accepted refl
+      pub entry_accepts : 64 ≤ room.trail → 4096 ≤ room.desk → entry_answer r setting room ≡ accepted
+      entry_accepts h g = eight false (rw (le-ltb room.trail 64 h, le-ltb room.desk 4096 g)) ∙ row_pass 8 0 false accepted refl
 
 -- ---- rows 9 to 12
 
@@ -128,11 +131,11 @@ module _ (r : Bytes) (setting : Setting) (room : Room) (entry : entry_answer r s
 
   late : (a : ScoreAnswer) → ((k p : ℕ) → a ≡ turned_back k p → 9 ≤ k) → (words : List ℕ) → table_after a words ≡ replicate (length words) 0
   unfolding table_after
-  late (scored index matches states removals) h words = refl
+  late (scored index matches states trail) h words = refl
   late (turned_back k p) h words = rw (le-leb 9 k (h k p refl), table_after)
 
   finished_late : (a : ScoreAnswer) → Finished setting a → (k p : ℕ) → a ≡ turned_back k p → 9 ≤ k
-  finished_late (scored index matches states removals) f k p e = let z : ◌≡◌ {A = ℕ} 0 1 = cc in absurd (omega arith)
+  finished_late (scored index matches states trail) f k p e = let z : ◌≡◌ {A = ℕ} 0 1 = cc in absurd (omega arith)
   finished_late (turned_back j q) f k p e =
       let g : j ≡ k = cc in
       ⊎_elim (λ (w : (j ≡ 11) × (q ≡ setting.budget)). omega (arith, w.0)) (λ (w : (j ≡ 12) × (setting.memo ≡ 1) × (q ≤ setting.budget)). omega (arith, w.0)) f
@@ -205,19 +208,20 @@ pub cached_zeros : (r : Bytes) (words : List ℕ) (n : ℕ) → words ≡ replic
 cached_zeros r words n e h = cached_none r words (rw (e, length-replicate) h) (λ i. rw e (zeros_at n i))
 
 -- a search with a memo table of m words, which is as long as it was: score's answer, by what the search is
-module _ (r : Bytes) (setting : Setting) (memo : List ℕ) (m : ℕ) (same : m ≡ length memo) where
+module _ (r : Bytes) (ok : check r ≡ accepted) (setting : Setting) (memo : List ℕ) (m : ℕ) (same : m ≡ length memo) where
   answer_is : (x : definition.Outcome) → definition.search r (pairs r) setting (memo_room m) ≡ x → search_answer r setting memo ≡ searched (match_table r) x
   answer_is x e = ap (searched (match_table r)) (ap (λ (k : ℕ). definition.search r (pairs r) setting (memo_room k)) (sym same) ∙ e)
 
-  -- what is found, whose removals are written into the trail: a score
+  -- what is found, whose trail is written: a score
   pub told_score : (o : Found) (k : List Entry) → definition.search r (pairs r) setting (memo_room m) ≡ found_as o k → (n : ℕ) → n ≡ length (pairs r) → (old : List ℕ)
-      → AnswerTold (search_answer r setting memo) (Ok (record { index = o.index; matches = n; states = o.run.states; length = length o.trail.items })) old
-      (o.trail.items ++ (replicate (32 - length o.trail.items) 0 ++ drop 32 old))
+      → AnswerTold (search_answer r setting memo) (Ok (record { index = o.index; matches = n; states = o.run.states; length = length (trail_of o.trail).numbers })) old
+      (written (trail_of o.trail) old)
   unfolding searched trail_after
   told_score o k e n c old =
-      let τ : List ℕ = o.trail.items in
-      let front = take_at τ (replicate (32 - length τ) 0 ++ drop 32 old) (length τ) refl in
-      rw (answer_is _ e, c ∙ pairs_length (match_table r)) (record { answer = ap (scored o.index (length (match_table r).matches) o.run.states) front; ends = refl })
+      let t : Trail = trail_of o.trail in
+      let fits = score.search_fits r ok setting (memo_room m) o.index t (run_of o.run k) e in
+      let told : read (length t.numbers) (written t old) ≡ t = read_written t old (omega (arith, fits.0)) fits.1 in
+      rw (answer_is _ e, c ∙ pairs_length (match_table r)) (record { answer = ap (scored o.index (length (match_table r).matches) o.run.states) told; ends = refl })
 
   -- rows 11 and 12, and the trail as it was
   pub told_halt : (h : Halt) → definition.search r (pairs r) setting (memo_room m) ≡ halted_as h → (old : List ℕ) → AnswerTold (search_answer r setting memo) (Err (says.Halt h)) old old
@@ -247,7 +251,7 @@ refusal_some (says.Halt (halt.Memo n)) = omega arith
 
 -- ---- demand 3
 
-pub demanded : (r : Bytes) (setting : Setting) (room : Room) (index matches states : ℕ) (trail : List ℕ) → score_answer r setting room ≡ scored index matches states trail
+pub demanded : (r : Bytes) (setting : Setting) (room : Room) (index matches states : ℕ) (trail : Trail) → score_answer r setting room ≡ scored index matches states trail
     → Demand3 r setting.memo setting.budget index states trail
 demanded r setting room index matches states trail e = record {
   increasing = score.trail_ascends r setting room index matches states trail e;
@@ -259,6 +263,9 @@ demanded r setting room index matches states trail e = record {
   least = score.index_is r setting room index matches states trail e;
   never_below = score.index_above r setting room index matches states trail e;
   least_is = score.accepted_least r (score.scored_accepted r setting room index matches states trail e);
+  sizes = score.trail_sizes r setting room index matches states trail e;
+  sum = score.sizes_sum r setting room index matches states trail e;
+  two = score.sizes_two r setting room index matches states trail e;
   joined = score.joins_pathway r setting room index matches states trail e;
   join_count = score.joins_count r setting room index matches states trail e;
   pathway = score.index_pathway r setting room index matches states trail e;
@@ -273,7 +280,7 @@ pub answers_by : {r : Bytes} {setting : Setting} {lent now : Loan} {x : Result S
 answers_by {r} {setting} {lent} {now} {x} e l = record {
   answer = e;
   leaves = l;
-  demand3 = λ s f. demanded r setting (room_of lent) s.index s.matches s.states (take s.length now.trail) (sym e ∙ ap (λ (y : Result Score ScoreRefusal). answer_of y now.trail) f);
+  demand3 = λ s f. demanded r setting (room_of lent) s.index s.matches s.states (read s.length now.trail) (sym e ∙ ap (λ (y : Result Score ScoreRefusal). answer_of y now.trail) f);
 }
 
 -- and of a record that rows 1 to 8 turn back

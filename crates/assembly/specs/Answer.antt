@@ -1,9 +1,10 @@
 -- What score's result says in document 01's numbers and values, and what is lent to it, before and after.
-use Rattle.std.specs.Prelude.{◌≡◌, List, ℕ, length, take, Result, Ok, Err}
+use Rattle.std.specs.Prelude.{◌≡◌, List, ℕ, length, Result, Ok, Err}
 use Rattle.molecule.specs.Verdict.{number_of, place_of}
 use Rattle.molecule.specs.Lists.{Bytes}
 use Rattle.matches.specs.Rows.{capacity, parts_each}
 use Rattle.search.specs.Setting.{Setting, Room}
+use Rattle.search.specs.Trail.{read}
 use Rattle.search.specs.Answer.{ScoreAnswer, scored, turned_back, score_answer, trail_after, table_after}
 use Rattle.tabulate.specs.Built.{full_number, full_place}
 use Rattle.recurse.specs.declared.visit.Halt.TheVariants as halts
@@ -28,10 +29,10 @@ refusal_place (says.Full f) = full_place f
 refusal_place (says.Halt (halts.Budget n)) = n
 refusal_place (says.Halt (halts.Memo n)) = n
 
--- a score's index, matches and states, with the removals that the trail has then; or the row's number and place
+-- a score's index, matches and states, with the trail that is read then in what was lent; or the row's number and place
 abbrev pub answer_of : Result Score ScoreRefusal → List ℕ → ScoreAnswer
-answer_of (Ok s) trail = scored s.index s.matches s.states (take s.length trail)
-answer_of (Err f) trail = turned_back (refusal_number f) (refusal_place f)
+answer_of (Ok s) lent = scored s.index s.matches s.states (read s.length lent)
+answer_of (Err f) lent = turned_back (refusal_number f) (refusal_place f)
 
 -- what is lent to score: the trail and the four tables
 pub record Loan : Type 0 where

@@ -1,20 +1,22 @@
 -- Demand 3, as score's contract states it of a record that is scored, whatever the bounds, the budget and the sizes and contents of the lent tables.
-use Rattle.std.specs.Prelude.{◌≡◌, true, List, ℕ, ◌+◌, ◌-◌, ◌≤◌, length}
+use Rattle.std.specs.Prelude.{◌≡◌, true, List, map, ℕ, ◌+◌, ◌-◌, ◌≤◌, length}
+use mathlib.Core.List.{Memᴰ as Mem}
 use Rattle.bitset.specs.Bits.{Ascending}
 use Rattle.molecule.specs.Lists.{Bytes}
 use Rattle.molecule.specs.Record.{bonds}
-use Rattle.matches.specs.Table.{pairs}
+use Rattle.matches.specs.Table.{pairs, size_of}
+use Rattle.search.specs.Trail.{Trail, sizes_less_one}
 use Rattle.search.specs.Series.{allowed, saved, series_score, least_score, IsLeastScore}
 use Rattle.search.specs.Pathway.{is_pathway, HasPathway, IsFewest, joins}
 
--- with this memo and budget the record has been answered index, states and the removals of the trail
-pub record Demand3 (r : Bytes) (memo budget index states : ℕ) (trail : List ℕ) : Type 0 where
+-- with this memo and budget the record has been answered index, states and the trail
+pub record Demand3 (r : Bytes) (memo budget index states : ℕ) (trail : Trail) : Type 0 where
   -- each removal comes later in the match table than the one before
-  pub increasing : Ascending trail
+  pub increasing : Ascending trail.numbers
   -- the removals in the trail are themselves a series that the match table allows
-  pub series : allowed r (pairs r) trail ≡ true
+  pub series : allowed r (pairs r) trail.numbers ≡ true
   -- and score exactly the index answered
-  pub scores : series_score r (pairs r) trail ≡ index
+  pub scores : series_score r (pairs r) trail.numbers ≡ index
   -- no series' score is cut short: it is bonds less one, less (size less one) for each removal
   pub exact : (τ : List ℕ) → allowed r (pairs r) τ ≡ true → series_score r (pairs r) τ + saved (pairs r) τ ≡ bonds r - 1
   -- with the memo off every series of removals that the match table allows, the empty one included, scores at least the index answered
@@ -26,10 +28,16 @@ pub record Demand3 (r : Bytes) (memo budget index states : ℕ) (trail : List �
   pub never_below : least_score r (pairs r) ≤ index
   -- which is the number that computes
   pub least_is : IsLeastScore r (pairs r) (least_score r (pairs r))
+  -- document 02, 3/14. Beside each match number stands the size of that match's fragments
+  pub sizes : trail.sizes ≡ map (size_of (pairs r)) trail.numbers
+  -- bonds less one is index plus the sum of (size less one) in the trail
+  pub sum : bonds r - 1 ≡ index + sizes_less_one trail
+  -- in which nothing is cut short: each size is two at least
+  pub two : (k : ℕ) → Mem k trail.sizes → 2 ≤ k
   -- the joins that the trail yields are a pathway that ends in the molecule
-  pub joined : is_pathway r (joins r (pairs r) trail) ≡ true
+  pub joined : is_pathway r (joins r (pairs r) trail.numbers) ≡ true
   -- with exactly that many joins
-  pub join_count : length (joins r (pairs r) trail) ≡ index
+  pub join_count : length (joins r (pairs r) trail.numbers) ≡ index
   -- a pathway with exactly that many joins ends in the molecule
   pub pathway : HasPathway r index
   -- with the memo off the index is the assembly index, the fewest joins of any pathway: one has exactly that many, and none has fewer

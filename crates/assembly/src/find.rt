@@ -13,7 +13,7 @@ use search::Setting;
 use state::scan::Rows;
 
 // The search of a molecule, whose matches are at the front of pairs, so many: the table is the caller's, as C lends it. Memo and desk may hold anything.
-// A score's removals go to the trail. What is lent stays slices, as score.rt says.
+// A score's trail is written. What is lent stays slices, as score.rt says.
 pub fn find<'a>(
     molecule: &'a Molecule<'a>,
     setting: Setting,
@@ -24,7 +24,7 @@ pub fn find<'a>(
     desk: &mut [u64],
 ) -> Result<Score, ScoreRefusal>
     requires { Recorded pairs.now (matches_of molecule.now.bytes.now) × (matches ≡ length (matches_of molecule.now.bytes.now))
-        × (4 * matches ≤ length pairs.now) × (matches ≤ 4294967295) × (32 ≤ length trail.old) × (4096 ≤ length desk.old) }
+        × (4 * matches ≤ length pairs.now) × (matches ≤ 4294967295) × (64 ≤ length trail.old) × (4096 ≤ length desk.old) }
     ensures { AnswerTold (search_answer molecule.now.bytes.now setting memo.old) result trail.old trail.new }
 {
     clear::zero(memo);
@@ -41,6 +41,6 @@ pub fn find<'a>(
         index: found.index,
         matches,
         states: found.run.states,
-        length: found.trail.len() as u32,
+        length: found.trail.numbers().len() as u32,
     })
 }

@@ -75,7 +75,7 @@ fn score_accepted(
     if 1 < setting.memo {
         return Err(ScoreRefusal::Setting);
     }
-    if trail.len() < 32 {
+    if trail.len() < 64 {
         return Err(ScoreRefusal::Lent);
     }
     if desk.len() < 4096 {

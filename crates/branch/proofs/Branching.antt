@@ -296,8 +296,8 @@ module _ (r : Bytes) (ok : check r ≡ accepted) (s : State) (F : Fine r (pairs 
         let i = k.in1 in
         omega (arith, size_of_first (pairs r) m, size_mono (pair (pairs r) m).h1 i.0 i.2, mem_sum (λ (p : ℕ). size p - 1) s.pieces i.0 i.1, F.covered)
 
-    pub removals_left : length s.removals < 32
-    removals_left = let c = child_falls r ok (pairs r) (table_laws r ok) s m F.inv k in omega (arith, c.0, c.1, F.weight, few r ok)
+    pub trail_left : length s.trail.numbers < 32
+    trail_left = let c = child_falls r ok (pairs r) (table_laws r ok) s m F.inv k in omega (arith, c.0, c.1, F.weight, few r ok)
 
     child_part : (p : ℕ) → Mem p (child r (pairs r) s (held_of r (pairs r) s) m).pieces → Connected r p
     unfolding child remove
@@ -324,7 +324,7 @@ module _ (r : Bytes) (ok : check r ≡ accepted) (s : State) (F : Fine r (pairs 
         record {
           fine = rw e f;
           connected = subst (λ (x : State). (q : ℕ) → Mem q x.pieces → Connected r q) (sym e) child_part;
-          both = subst (λ (x : State). length x.pieces + length x.removals ≤ 32) (sym e) (omega (arith, f.weight, few r ok, count_two (child r (pairs r) s (held_of r (pairs r) s) m).pieces (child_two r ok (pairs r) M s m F.inv k)));
+          both = subst (λ (x : State). length x.pieces + length x.trail.numbers ≤ 32) (sym e) (omega (arith, f.weight, few r ok, count_two (child r (pairs r) s (held_of r (pairs r) s) m).pieces (child_two r ok (pairs r) M s m F.inv k)));
           after = omega (arith, ap (λ (x : State). x.next) e, next_is, k.is);
         }
 
@@ -350,7 +350,7 @@ module _ (r : Bytes) (ok : check r ≡ accepted) (rows : List (List ℕ)) (liste
   sized = word 3 ∙ size_of_first (pairs r) m
 
   pub below_asks : length rows ≤ 4294967295
-      → Big held × (bonds_left (get_or row 2 0) held + 2 ≤ 64) × (m < 2 ^ 32) × (1 ≤ get_or row 3 0) × (get_or row 3 0 < 2 ^ 32) × (get_or row 3 0 - 1 ≤ s.index) × (length (state_of s).removals < 32)
+      → Big held × (bonds_left (get_or row 2 0) held + 2 ≤ 64) × (m < 2 ^ 32) × (1 ≤ get_or row 3 0) × (get_or row 3 0 < 2 ^ 8) × (get_or row 3 0 - 1 ≤ s.index) × (length (state_of s).trail.numbers < 32)
   below_asks few =
       let R = chosen r s held m C in (
         rw C.keeps (held_big r ok (state_of s) E.fine),
@@ -359,7 +359,7 @@ module _ (r : Bytes) (ok : check r ≡ accepted) (rows : List (List ℕ)) (liste
         omega (arith, sized, size_least r ok m C.within),
         omega (arith, sized, size_most r ok m C.within),
         omega (arith, sized, index_left r ok (state_of s) E.fine m R),
-        removals_left r ok (state_of s) E.fine m R,
+        trail_left r ok (state_of s) E.fine m R,
       )
 
   pub below_is : (touch : List ℕ) → touch ≡ touching_words r → (c : code.State)

@@ -1,7 +1,8 @@
 -- score's answer in the fields of the C reply.
-use Rattle.std.specs.Prelude.{◌≡◌, ℕ, length, take, Result, Ok, Err, MatchResult}
+use Rattle.std.specs.Prelude.{◌≡◌, ℕ, length, Result, Ok, Err, MatchResult}
 use Rattle.molecule.specs.Lists.{Bytes}
 use Rattle.search.specs.Setting.{Setting}
+use Rattle.search.specs.Trail.{read}
 use Rattle.search.specs.Answer.{ScoreAnswer, scored, turned_back}
 use Rattle.assembly.specs.Answer.{Loan, answer_to, Leaves, refusal_number, refusal_place}
 use Rattle.assembly.specs.Demand.{Demand3}
@@ -23,28 +24,28 @@ asked bounds memo budget = record { bounds = bounds; memo = memo; budget = budge
 
 -- document 01's number, 0 for a score, and its place, 0 too for a score
 abbrev pub row_of : ScoreAnswer → ℕ
-row_of (scored index matches states removals) = 0
+row_of (scored index matches states trail) = 0
 row_of (turned_back number place) = number
 
 abbrev pub place_in : ScoreAnswer → ℕ
-place_in (scored index matches states removals) = 0
+place_in (scored index matches states trail) = 0
 place_in (turned_back number place) = place
 
 -- what a score holds: index, matches, states and the number of removals; each is 0 on a row
 abbrev pub index_of : ScoreAnswer → ℕ
-index_of (scored index matches states removals) = index
+index_of (scored index matches states trail) = index
 index_of (turned_back number place) = 0
 
 abbrev pub matches_of : ScoreAnswer → ℕ
-matches_of (scored index matches states removals) = matches
+matches_of (scored index matches states trail) = matches
 matches_of (turned_back number place) = 0
 
 abbrev pub states_of : ScoreAnswer → ℕ
-states_of (scored index matches states removals) = states
+states_of (scored index matches states trail) = states
 states_of (turned_back number place) = 0
 
 abbrev pub length_of : ScoreAnswer → ℕ
-length_of (scored index matches states removals) = length removals
+length_of (scored index matches states trail) = length trail.numbers
 length_of (turned_back number place) = 0
 
 -- each field is that of the answer
@@ -60,7 +61,7 @@ pub record Replies (reply : ScoreReply) (a : ScoreAnswer) : Type 0 where
 pub record Answered (r : Bytes) (setting : Setting) (lent now : Loan) (reply : ScoreReply) : Type 0 where
   pub answer : Replies reply (answer_to r setting lent)
   pub leaves : Leaves (answer_to r setting lent) lent now
-  pub demand3 : reply.number ≡ 0 → Demand3 r setting.memo setting.budget reply.index reply.states (take reply.length now.trail)
+  pub demand3 : reply.number ≡ 0 → Demand3 r setting.memo setting.budget reply.index reply.states (read reply.length now.trail)
 
 -- a row as a reply
 abbrev pub turned : ℕ → ℕ → ScoreReply

@@ -1,5 +1,5 @@
 #![tactic(auto)]
-// Lent words left with zeros.
+// Lent words and numbers left with zeros.
 ghost use Rattle.std.specs.Prelude.{◌≡◌, ◌≤◌, length, replicate};
 ghost use Rattle.clear.specs.Inner.Part.{zero_part};
 
@@ -8,6 +8,13 @@ pub fn zero(words: &mut [u64])
     ensures { words.new ≡ replicate (length words.old) 0 }
 {
     words.fill(0);
+}
+
+// Every number becomes 0. The same of numbers of 32 bits.
+pub fn zero_numbers(numbers: &mut [u32])
+    ensures { numbers.new ≡ replicate (length numbers.old) 0 }
+{
+    numbers.fill(0);
 }
 
 // The words from .. to become 0.

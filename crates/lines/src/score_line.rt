@@ -15,7 +15,7 @@ struct Lent {
     pairs: usize,
     memo: usize,
     desk: usize,
-    ghost trail_fits: { trail ≤ 40 },
+    ghost trail_fits: { trail ≤ 72 },
     ghost parts_fit: { parts ≤ 65536 },
     ghost pairs_fit: { pairs ≤ 65536 },
     ghost memo_fits: { memo ≤ 163840 },
@@ -40,18 +40,18 @@ fn setting_of(words: &mut Words) -> Option<Setting> {
     })
 }
 
-// The lengths that stand behind the budget: all five, or none, and then 32, 65536, 65536, 163840 and 4096.
+// The lengths that stand behind the budget: all five, or none, and then 64, 65536, 65536, 163840 and 4096.
 fn lengths(mut words: Words) -> Option<Lent> {
     if words.is_done() {
         return Some(Lent {
-            trail: 32,
+            trail: 64,
             parts: 65536,
             pairs: 65536,
             memo: 163840,
             desk: 4096,
         });
     }
-    let trail = words.next_number(40)?;
+    let trail = words.next_number(72)?;
     let parts = words.next_number(65536)?;
     let pairs = words.next_number(65536)?;
     let memo = words.next_number(163840)?;
@@ -90,12 +90,12 @@ fn score_over(
 // Scores with a trail and tables of so many elements, and puts the answer.
 // Arrays of the most that may be lent: the memory is fixed, and that of a Vec can fail.
 fn put_score<P: Print>(bytes: &[u8], setting: Setting, lent: Lent, out: &mut Output<P>) {
-    let mut removals = [0u32; 40];
+    let mut numbers = [0u32; 72];
     let mut parts = [0u64; 65536];
     let mut pairs = [0u64; 65536];
     let mut memo = [0u64; 163840];
     let mut desk = [0u64; 5000];
-    let trail = &mut removals[..lent.trail];
+    let trail = &mut numbers[..lent.trail];
     let answer = score_over(
         bytes,
         setting,
@@ -108,7 +108,7 @@ fn put_score<P: Print>(bytes: &[u8], setting: Setting, lent: Lent, out: &mut Out
     put_answer(answer, trail, out);
 }
 
-// Puts `scored INDEX MATCHES STATES K T0 T1 ..` or `refused NUMBER PLACE`.
+// Puts `scored INDEX MATCHES STATES K`, the K match numbers and then the K sizes, or `refused NUMBER PLACE`.
 fn put_answer<P: Print>(answer: Result<Score, ScoreRefusal>, trail: &[u32], out: &mut Output<P>) {
     match answer {
         Ok(s) => put_held(s, trail, out),
@@ -116,7 +116,14 @@ fn put_answer<P: Print>(answer: Result<Score, ScoreRefusal>, trail: &[u32], out:
     }
 }
 
-// Puts what a score holds, and its removals: the first numbers of the trail.
+// Puts the first k numbers.
+fn put_numbers<P: Print>(numbers: &[u32], k: usize, out: &mut Output<P>) {
+    for number in numbers.iter().take(k) {
+        out.print(format_args!(" {number}"));
+    }
+}
+
+// Puts what a score holds, and then match numbers and sizes: the first of either array of the trail.
 fn put_held<P: Print>(s: Score, trail: &[u32], out: &mut Output<P>) {
     let Score {
         index,
@@ -125,7 +132,7 @@ fn put_held<P: Print>(s: Score, trail: &[u32], out: &mut Output<P>) {
         length,
     } = s;
     out.print(format_args!("scored {index} {matches} {states} {length}"));
-    for removal in trail.iter().take(length as usize) {
-        out.print(format_args!(" {removal}"));
-    }
+    let (numbers, sizes) = trail.split_at(trail.len().min(32));
+    put_numbers(numbers, length as usize, out);
+    put_numbers(sizes, length as usize, out);
 }

@@ -15,6 +15,7 @@ use Rattle.bounds.specs.Bounds.{int_bound}
 use Rattle.matches.specs.Table.{Pair, pairs}
 use Rattle.matches.proofs.Laws.{table_laws}
 use Rattle.search.specs.Setting.{Setting, has_int, has_memo, memo_room}
+use Rattle.search.specs.Trail.{Trail}
 use Rattle.search.specs.State.{State, root, removable, child}
 use Rattle.search.specs.Memo.{Entry, Memo, goes, stopped, full, remember, entry_of, key_of}
 use Rattle.search.specs.Search.{Run, Outcome, answers, halts, lower, int_stops, ask, tried, children, branch, counted, visit, search}
@@ -31,7 +32,7 @@ use Rattle.recurse.specs.declared.visit.Found.{Found}
 use Rattle.recurse.specs.declared.visit.Halt.{Halt}
 use Rattle.recurse.specs.declared.visit.Halt.TheVariants.{Budget, Memo as MemoFull}
 use Rattle.memoize.specs.declared.Full.{Full}
-use Rattle.state.specs.Inner.Views.{state_of}
+use Rattle.state.specs.Inner.Views.{trail_of, state_of}
 use Rattle.desk.specs.Inner.Cached.{Cached}
 use Rattle.memoize.specs.Inner.Stored.{Fragments, Stored, entry_with, MemoAnswers}
 use Rattle.branch.specs.Inner.Entered.{Entered}
@@ -72,12 +73,12 @@ module _ (r : Bytes) (ms : List Pair) (setting : Setting) (room : ℕ) (s : Stat
   visit_counts h f = rw (lt-ltb run.states setting.budget h, visit)
 
   module _ (enter : State → Run → Outcome) where
-    int_stopped : int_stops r ms setting room s run.best ≡ true → counted r ms setting room enter s run ≡ answers s.index s.removals run
+    int_stopped : int_stops r ms setting room s run.best ≡ true → counted r ms setting room enter s run ≡ answers s.index s.trail run
     unfolding counted
     int_stopped e = rw (e, counted)
 
     module _ (on : int_stops r ms setting room s run.best ≡ false) where
-      memo_stopped : ask r ms setting room s run.memo ≡ stopped → counted r ms setting room enter s run ≡ answers s.index s.removals run
+      memo_stopped : ask r ms setting room s run.memo ≡ stopped → counted r ms setting room enter s run ≡ answers s.index s.trail run
       unfolding counted
       memo_stopped q = rw (on, q, counted)
 
@@ -90,7 +91,7 @@ module _ (r : Bytes) (ms : List Pair) (setting : Setting) (room : ℕ) (s : Stat
       unfolding counted
       memo_goes n q = rw (on, q, counted)
 
-  ask_on : (m : List Entry) → has_memo setting ≡ true → ask r ms setting room s m ≡ remember room (entry_with r s.pieces s.index s.removals) m
+  ask_on : (m : List Entry) → has_memo setting ≡ true → ask r ms setting room s m ≡ remember room (entry_with r s.pieces s.index s.trail.numbers) m
   unfolding ask entry_of key_of
   ask_on m e = rw (e, ask)
 
@@ -141,7 +142,7 @@ module _ (r : Bytes) (setting : Setting) (room : ℕ) (s : code.State) (run : co
         })
         gated_by a full q h = rw h.0 (record { ends = λ f. entered f ∙ memo_full r (pairs r) setting room (state_of s) (run_of next m) _ (int_at on) q })
 
-        pub gated_memo : has_memo setting ≡ true → (a : Result (Option ℕ) Full) (pieces removals : List ℕ) → pieces ≡ (state_of s).pieces → removals ≡ (state_of s).removals
+        pub gated_memo : has_memo setting ≡ true → (a : Result (Option ℕ) Full) (pieces removals : List ℕ) → pieces ≡ (state_of s).pieces → removals ≡ (state_of s).trail.numbers
             → MemoAnswers r old now a (remember room (entry_with r pieces s.index removals) m) → Gated r setting room s run m now (gate_of a next)
         gated_memo memo a pieces removals p q h =
             gated_by a _ (ask_on r (pairs r) setting room (state_of s) (run_of run m) m memo) (rw (← p, ← q) h)
@@ -186,7 +187,7 @@ module _ {r : Bytes} (ok : check r ≡ accepted) {setting : Setting} {s : code.S
 abbrev pub whole_of : Bytes → Setting → ℕ → ℕ → code.State → ℕ → ℕ → Found → List Entry → Outcome
 whole_of r setting room f s least n found memo =
     children r (pairs r) setting room (visit r (pairs r) setting room f) (state_of s) (held_of r (pairs r) (state_of s)) (tried_from r (pairs r) (state_of s).pieces least n)
-    found.index found.trail.items (run_of found.run memo)
+    found.index (trail_of found.trail) (run_of found.run memo)
 
 -- they give the whole, with the memo that the words store
 pub record Looping (r : Bytes) (setting : Setting) (room f : ℕ) (s : code.State) (least n : ℕ) (found : Found) (words : List ℕ) (whole : Outcome) : Type 0 where
@@ -195,23 +196,23 @@ pub record Looping (r : Bytes) (setting : Setting) (room f : ℕ) (s : code.Stat
   pub same : whole ≡ whole_of r setting room f s least n found memo
 
 -- one turn of the children
-module _ (r : Bytes) (ms : List Pair) (setting : Setting) (room : ℕ) (enter : State → Run → Outcome) (s : State) (held : List ℕ) (m : ℕ) (ns : List ℕ) (answer : ℕ) (trail : List ℕ) (run : Run) where
+module _ (r : Bytes) (ms : List Pair) (setting : Setting) (room : ℕ) (enter : State → Run → Outcome) (s : State) (held : List ℕ) (m : ℕ) (ns : List ℕ) (answer : ℕ) (trail : Trail) (run : Run) where
   turn_halts : (h : Halt) → enter (child r ms s held m) run ≡ halted_as h → children r ms setting room enter s held (m ∷ ns) answer trail run ≡ halted_as h
   unfolding children
   turn_halts (Budget n) q = rw (q, children)
   turn_halts (MemoFull n) q = rw (q, children)
 
-  turn_less : (a : ℕ) (t : List ℕ) (run' : Run) → enter (child r ms s held m) run ≡ answers a t run' → ltb a answer ≡ true
+  turn_less : (a : ℕ) (t : Trail) (run' : Run) → enter (child r ms s held m) run ≡ answers a t run' → ltb a answer ≡ true
       → children r ms setting room enter s held (m ∷ ns) answer trail run ≡ children r ms setting room enter s held ns a t run'
   unfolding children
   turn_less a t run' q e = rw (q, e, children)
 
-  turn_more : (a : ℕ) (t : List ℕ) (run' : Run) → enter (child r ms s held m) run ≡ answers a t run' → ltb a answer ≡ false
+  turn_more : (a : ℕ) (t : Trail) (run' : Run) → enter (child r ms s held m) run ≡ answers a t run' → ltb a answer ≡ false
       → children r ms setting room enter s held (m ∷ ns) answer trail run ≡ children r ms setting room enter s held ns answer trail run'
   unfolding children
   turn_more a t run' q e = rw (q, e, children)
 
-pub children_none : (r : Bytes) (ms : List Pair) (setting : Setting) (room : ℕ) (enter : State → Run → Outcome) (s : State) (held ns : List ℕ) (answer : ℕ) (trail : List ℕ) (run : Run) → ns ≡ []
+pub children_none : (r : Bytes) (ms : List Pair) (setting : Setting) (room : ℕ) (enter : State → Run → Outcome) (s : State) (held ns : List ℕ) (answer : ℕ) (trail : Trail) (run : Run) → ns ≡ []
     → children r ms setting room enter s held ns answer trail run ≡ answers answer trail run
 unfolding children
 children_none r ms setting room enter s held ns answer trail run e = rw e
@@ -236,11 +237,11 @@ module _ (r : Bytes) (ok : check r ≡ accepted) (setting : Setting) (room f : �
   rest = tried_from r (pairs r) (state_of s).pieces least (suc m)
 
   whole_is : whole ≡ children r (pairs r) setting room (visit r (pairs r) setting room f) (state_of s) (held_of r (pairs r) (state_of s)) (m ∷ rest)
-      found.index found.trail.items (run_of found.run L.memo)
+      found.index (trail_of found.trail) (run_of found.run L.memo)
   whole_is =
       L.same
       ∙ ap (λ (ns : List ℕ). children r (pairs r) setting room (visit r (pairs r) setting room f) (state_of s) (held_of r (pairs r) (state_of s)) ns
-      found.index found.trail.items (run_of found.run L.memo))
+      found.index (trail_of found.trail) (run_of found.run L.memo))
       T.others
 
   pub loop_halts : (h : Halt) → g ≡ Err h → whole ≡ halted_as h
@@ -315,7 +316,7 @@ module _ {r : Bytes} {setting : Setting} {s : code.State} {least first : ℕ} {f
     (K : Kept r setting s least first found₀ memo₀ desk₀ n found memo desk) (ok : check r ≡ accepted) where
   -- nothing is left to try
   pub kept_done : tried_from r (pairs r) (state_of s).pieces least n ≡ [] → (room : ℕ) → room ≡ memo_room (length memo₀) → (k : List Entry) → Stored r memo₀ found₀.run.entries k → (f : ℕ) → sum_of size (state_of s).pieces ≤ suc f
-      → (l : List Entry) × Stored r memo found.run.entries l × (whole_of r setting room f s least first found₀ k ≡ answers found.index found.trail.items (run_of found.run l))
+      → (l : List Entry) × Stored r memo found.run.entries l × (whole_of r setting room f s least first found₀ k ≡ answers found.index (trail_of found.trail) (run_of found.run l))
   kept_done e room q k st f h =
       let L = K.loops room q k st f h in
       (L.memo, L.stored, L.same ∙ children_none r (pairs r) setting room _ (state_of s) _ _ _ _ _ e)
@@ -354,7 +355,7 @@ unfolding lower
 lower_halts o (Budget n) e = rw e
 lower_halts o (MemoFull n) e = rw e
 
-lower_answers : (o : Outcome) (a : ℕ) (t : List ℕ) (run : Run) → o ≡ answers a t run → lower o ≡ answers a t (record { best = min run.best a; states = run.states; memo = run.memo })
+lower_answers : (o : Outcome) (a : ℕ) (t : Trail) (run : Run) → o ≡ answers a t run → lower o ≡ answers a t (record { best = min run.best a; states = run.states; memo = run.memo })
 unfolding lower
 lower_answers o a t run e = rw e
 
@@ -373,7 +374,7 @@ module _ (r : Bytes) (setting : Setting) (room : ℕ) (s : code.State) (run : co
   -- a state that is stopped
   pub visited_stopped : (next : code_run.Run) (o : Found) → StoppedState r setting room s run m words next → OwnAnswer s next o
       → Visited r setting room s run m (Ok o) words
-  visited_stopped next o D e = visited_by (Ok o) (λ f. answers s.index (state_of s).removals (run_of next m)) D.stops (λ f q. record {
+  visited_stopped next o D e = visited_by (Ok o) (λ f. answers s.index (state_of s).trail (run_of next m)) D.stops (λ f q. record {
     memo = m;
     is = rw (e.index, e.trail, e.carried);
     low = omega (arith, ap (λ (x : code_run.Run). x.best) e.carried, D.counted.best);
@@ -388,7 +389,7 @@ module _ (r : Bytes) (setting : Setting) (room : ℕ) (s : code.State) (run : co
     opened_is f =
         D.goes f
         ∙ ap (λ (ns : List ℕ). lower (children r (pairs r) setting room (visit r (pairs r) setting room f) (state_of s) (held_of r (pairs r) (state_of s)) ns
-        s.index (state_of s).removals (run_of next D.memo))) tries
+        s.index (state_of s).trail (run_of next D.memo))) tries
         ∙ rw (e.index, e.trail, e.carried)
 
     pub visited_halts : (h : Halt) → ((f : ℕ) → sum_of size (state_of s).pieces ≤ suc f → whole_of r setting room f s least first found D.memo ≡ halted_as h) → (now : List ℕ)
@@ -398,7 +399,7 @@ module _ (r : Bytes) (setting : Setting) (room : ℕ) (s : code.State) (run : co
 
     pub visited_answers : (last o : Found) (now : List ℕ) → Lowered last o → last.run.best ≤ run.best
         → ((f : ℕ) → sum_of size (state_of s).pieces ≤ suc f → (n : List Entry) × Stored r now last.run.entries n
-        × (whole_of r setting room f s least first found D.memo ≡ answers last.index last.trail.items (run_of last.run n)))
+        × (whole_of r setting room f s least first found D.memo ≡ answers last.index (trail_of last.trail) (run_of last.run n)))
         → Visited r setting room s run m (Ok o) now
     visited_answers last o now w b h zero p q = absurd (omega arith)
     visited_answers last o now w b h (suc f) p q =
@@ -426,7 +427,7 @@ module _ (r : Bytes) (ok : check r ≡ accepted) (s : code.State) (e : state_of 
   unfolding root
   root_part p i = let q : p ≡ all_bonds r = mem_one i in rw q (all_connected r ok)
 
-  root_both : length (root r (pairs r)).pieces + length (root r (pairs r)).removals ≤ 32
+  root_both : length (root r (pairs r)).pieces + length (root r (pairs r)).trail.numbers ≤ 32
   unfolding root
   root_both = omega arith
 
@@ -442,7 +443,7 @@ module _ (r : Bytes) (ok : check r ≡ accepted) (s : code.State) (e : state_of 
   root_entered = record {
     fine = subst (Fine r (pairs r)) (sym e) (root_fine r ok (pairs r) (table_laws r ok));
     connected = subst (λ (x : State). (p : ℕ) → Mem p x.pieces → Connected r p) (sym e) root_part;
-    both = subst (λ (x : State). length x.pieces + length x.removals ≤ 32) (sym e) root_both;
+    both = subst (λ (x : State). length x.pieces + length x.trail.numbers ≤ 32) (sym e) root_both;
     after = omega (arith, ap (λ (x : State). x.next) e, root_next);
   }
 

@@ -7,12 +7,12 @@ ghost use Rattle.desk.specs.Inner.Cached.{Cached};
 ghost use Rattle.memoize.specs.Inner.Stored.{Stored};
 ghost use Rattle.recurse.specs.Inner.Follows.{MayEnter, MayStart, Visited, Searches, IntStops, gate_of, Gated, OwnAnswer, better_of, Lowered};
 
-use arrayvec::ArrayVec;
 use branch::searched::Searched;
 use canonize::Slate;
 use memoize::Full;
 use search::Setting;
 use state::State;
+use state::trail::Trail;
 
 // What is carried from state to state: best, the states entered, and how many entries the memo has.
 #[derive(Clone, Copy, Debug, PartialEq, Eq)]
@@ -23,10 +23,10 @@ pub struct Run {
 }
 
 // An index with its trail, and what is carried then.
-#[derive(Clone, Debug, PartialEq, Eq, Drop)]
+#[derive(Clone, Copy, Debug, PartialEq, Eq, Drop)]
 pub struct Found {
     pub index: u32,
-    pub trail: ArrayVec<u32, 32>,
+    pub trail: Trail,
     pub run: Run,
 }
 
@@ -103,24 +103,22 @@ fn enter(
         run.entries,
         &s.pieces,
         s.index,
-        &s.removals,
+        s.trail.numbers(),
         desk,
         slate,
     );
     passed(asked, next)
 }
 
-// A state's own index and removals as its answer.
+// A state's own index and trail as its answer.
 fn own_answer(s: &State, run: Run) -> Found
     ensures { OwnAnswer s.now run result }
 {
-    let mut found = Found {
+    Found {
         index: s.index,
-        trail: ArrayVec::new(),
+        trail: s.trail,
         run,
-    };
-    state::copy_removals(&s.removals, &mut found.trail);
-    found
+    }
 }
 
 // What is found so far, after a child's answer: what is carried is the child's, and the answer where it is less.

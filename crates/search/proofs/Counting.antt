@@ -14,6 +14,7 @@ use Rattle.molecule.specs.Record.{bonds}
 use Rattle.canonize.specs.Strings.{lex_le}
 use Rattle.matches.specs.Table.{Pair}
 use Rattle.search.specs.Setting.{Setting, has_memo}
+use Rattle.search.specs.Trail.{Trail}
 use Rattle.search.specs.State.{State, root, removable, child}
 use Rattle.search.specs.Memo.{Entry, same_key, Memo, goes, stopped, full, recall, remember, entry_of}
 use Rattle.search.specs.Search.{Run, Outcome, answers, halts, lower, int_stops, ask, tried, children, branch, counted, visit, search}
@@ -70,7 +71,7 @@ module _ (r : Bytes) (ms : List Pair) (setting : Setting) (room : ℕ) where
       go (inl e) = rw (e, ask) (remember_kept room (entry_of r s) memo l)
       go (inr e) = rw (e, ask) l
 
-  children_counts : (enter : State → Run → Outcome) → Enters enter → (s : State) (held ns : List ℕ) (b : ℕ) (u : List ℕ) (run : Run) → run.states ≤ setting.budget → length run.memo ≤ room
+  children_counts : (enter : State → Run → Outcome) → Enters enter → (s : State) (held ns : List ℕ) (b : ℕ) (u : Trail) (run : Run) → run.states ≤ setting.budget → length run.memo ≤ room
       → Counts setting room run.states (children r ms setting room enter s held ns b u run)
   unfolding children
   children_counts enter E s held [] b u run x y = (omega arith, x, y)
@@ -81,7 +82,7 @@ module _ (r : Bytes) (ms : List Pair) (setting : Setting) (room : ℕ) where
       Whole = Counts setting room run.states (children r ms setting room enter s held (m ∷ ns) b u run)
 
       go : (o : Outcome) → enter (child r ms s held m) run ≡ o → Counts setting room (suc run.states) (enter (child r ms s held m) run)
-          → ((b' : ℕ) (u' : List ℕ) (run' : Run) → run'.states ≤ setting.budget → length run'.memo ≤ room → Counts setting room run'.states (children r ms setting room enter s held ns b' u' run'))
+          → ((b' : ℕ) (u' : Trail) (run' : Run) → run'.states ≤ setting.budget → length run'.memo ≤ room → Counts setting room run'.states (children r ms setting room enter s held ns b' u' run'))
           → Whole
       go (halts n p) q e ih = let e' : p ≤ setting.budget = rw q at e in rw (q, children) e'
       go (answers a1 t1 run1) q e ih = less (two (ltb a1 b))
@@ -89,7 +90,7 @@ module _ (r : Bytes) (ms : List Pair) (setting : Setting) (room : ℕ) where
           e' : Counts setting room (suc run.states) (answers a1 t1 run1)
           e' = rw q at e
 
-          on : (b' : ℕ) (u' : List ℕ) → Counts setting room run.states (children r ms setting room enter s held ns b' u' run1)
+          on : (b' : ℕ) (u' : Trail) → Counts setting room run.states (children r ms setting room enter s held ns b' u' run1)
           on b' u' = counts_weaken setting room run.states run1.states (omega (arith, e'.0)) (children r ms setting room enter s held ns b' u' run1) (ih b' u' run1 e'.1 e'.2)
 
           less : (ltb a1 b ≡ true) ⊎ (ltb a1 b ≡ false) → Whole
@@ -116,8 +117,8 @@ module _ (r : Bytes) (ms : List Pair) (setting : Setting) (room : ℕ) where
               let k' : length memo ≤ room = rw q at k in
               let run' : Run = record { best = run.best; states = run.states; memo = memo } in
               rw (e, q, counted)
-              (counts_lower setting room run.states (children r ms setting room enter s (held_of r ms s) ns s.index s.removals run')
-              (children_counts enter E s (held_of r ms s) ns s.index s.removals run' x k'))
+              (counts_lower setting room run.states (children r ms setting room enter s (held_of r ms s) ns s.index s.trail run')
+              (children_counts enter E s (held_of r ms s) ns s.index s.trail run' x k'))
           asked stopped q k = rw (e, q, counted) (omega arith, x, y)
           asked full q k = rw (e, q, counted) x
 

@@ -25,6 +25,7 @@ use Rattle.bounds.proofs.Numbers.{sum_append, mem_sum}
 use Rattle.bounds.proofs.Savings.{and_le}
 use Rattle.bounds.proofs.Steps.{step_falls, step_less, step_two}
 use Rattle.search.specs.Setting.{Setting, has_memo}
+use Rattle.search.specs.Trail.{Trail}
 use Rattle.search.specs.State.{State, root, big_components, removable, mask_of, keep, remove, child}
 use Rattle.search.specs.Memo.{Memo, goes, stopped, full}
 use Rattle.search.specs.Search.{Run, Outcome, answers, halts, lower, int_stops, ask, tried, children, branch, counted, visit, search}
@@ -97,9 +98,9 @@ module _ (r : Bytes) (ok : check r ≡ accepted) (ms : List Pair) (M : Laws r ms
         let x = F.exact in
         record {
           inv = child_inv r ok ms M s m I k;
-          weight = omega (arith, length-append s.removals (m ∷ []));
+          weight = omega (arith, length-append s.trail.numbers (m ∷ []));
           covered = omega (arith, size_of_first ms m);
-          exact = omega (arith, size_of_first ms m, sum_append (λ (m : ℕ). size_of ms m - 1) s.removals (m ∷ []));
+          exact = omega (arith, size_of_first ms m, sum_append (λ (m : ℕ). size_of ms m - 1) s.trail.numbers (m ∷ []));
           widest = ((pair ms m).h1, remove_first r ms (held_of r ms s) m, size_of_first ms m);
         }
 
@@ -111,7 +112,7 @@ module _ (r : Bytes) (ok : check r ≡ accepted) (ms : List Pair) (M : Laws r ms
 
   module _ (setting : Setting) (room : ℕ) where
     children_ends : (enter : State → Run → Outcome) (s : State) (held ns : List ℕ) → ((m : ℕ) → Mem m ns → (run : Run) → Ends setting (enter (child r ms s held m) run))
-        → (b : ℕ) (u : List ℕ) (run : Run) → Ends setting (children r ms setting room enter s held ns b u run)
+        → (b : ℕ) (u : Trail) (run : Run) → Ends setting (children r ms setting room enter s held ns b u run)
     unfolding children
     children_ends enter s held [] E b u run = tt
     children_ends enter s held (m ∷ ns) E b u run =
@@ -121,7 +122,7 @@ module _ (r : Bytes) (ok : check r ≡ accepted) (ms : List Pair) (M : Laws r ms
         Whole = Ends setting (children r ms setting room enter s held (m ∷ ns) b u run)
 
         go : (o : Outcome) → enter (child r ms s held m) run ≡ o → Ends setting (enter (child r ms s held m) run)
-            → ((b' : ℕ) (u' : List ℕ) (run' : Run) → Ends setting (children r ms setting room enter s held ns b' u' run')) → Whole
+            → ((b' : ℕ) (u' : Trail) (run' : Run) → Ends setting (children r ms setting room enter s held ns b' u' run')) → Whole
         go (halts n p) q e ih = let e' : Ends setting (halts n p) = rw q at e in rw (q, children) e'
         go (answers a1 t1 run1) q e ih = less (two (ltb a1 b))
           where
@@ -145,8 +146,8 @@ module _ (r : Bytes) (ok : check r ≡ accepted) (ms : List Pair) (M : Laws r ms
             asked (goes memo) q =
                 let run' : Run = record { best = run.best; states = run.states; memo = memo } in
                 rw (e, q, counted)
-                (ends_lower setting (children r ms setting room enter s (held_of r ms s) ns s.index s.removals run')
-                (children_ends enter s (held_of r ms s) ns (λ m i. E m (tried_removable r ms setting room s run.best m i)) s.index s.removals run'))
+                (ends_lower setting (children r ms setting room enter s (held_of r ms s) ns s.index s.trail run')
+                (children_ends enter s (held_of r ms s) ns (λ m i. E m (tried_removable r ms setting room s run.best m i)) s.index s.trail run'))
             asked stopped q = rw (e, q, counted) tt
             asked full q = rw (e, q, counted) (inr (refl, on (two (has_memo setting))))
               where

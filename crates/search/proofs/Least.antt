@@ -25,6 +25,7 @@ use Rattle.bounds.specs.Inner.Removals.{Step}
 use Rattle.bounds.proofs.Steps.{step_apart}
 use Rattle.bounds.proofs.Bounds.{below_least}
 use Rattle.search.specs.Setting.{Setting, has_int, has_matchable_edges, has_memo}
+use Rattle.search.specs.Trail.{Trail}
 use Rattle.search.specs.State.{State, root, removable, mask_of, remove, child}
 use Rattle.search.specs.Memo.{Entry, goes}
 use Rattle.search.specs.Search.{Run, Outcome, answers, halts, lower, int_stops, ask, tried, children, branch, counted, visit, search}
@@ -43,7 +44,7 @@ record Looped (r : Bytes) (ms : List Pair) (s : State) (held ns : List ℕ) (ans
   high : b' ≤ b
   least : (m : ℕ) → Mem m ns → (τ : List ℕ) → Allows r ms (suc m) (remove r ms held m) τ → min b a ≤ (s.index - (size_of ms m - 1)) - saved ms τ
 
-holds_map : (Q R : ℕ → List ℕ → Run → Type 0) → ((a : ℕ) (t : List ℕ) (run : Run) → Q a t run → R a t run) → (o : Outcome) → Holds o Q → Holds o R
+holds_map : (Q R : ℕ → Trail → Run → Type 0) → ((a : ℕ) (t : Trail) (run : Run) → Q a t run → R a t run) → (o : Outcome) → Holds o Q → Holds o R
 holds_map Q R f (answers a t run) h = f a t run h
 holds_map Q R f (halts n p) h = tt
 
@@ -101,7 +102,7 @@ module _ (r : Bytes) (ok : check r ≡ accepted) (ms : List Pair) (M : Laws r ms
     Enters enter = (c : State) (run : Run) → Inv r ms c → Holds (enter c run) (λ a t run'. Bounded r ms c run.best a run'.best)
 
     children_least : (enter : State → Run → Outcome) → Enters enter → (s : State) (held : List ℕ)
-        → (ns : List ℕ) → ((m : ℕ) → Mem m ns → Inv r ms (child r ms s held m)) → (b : ℕ) (u : List ℕ) (run : Run)
+        → (ns : List ℕ) → ((m : ℕ) → Mem m ns → Inv r ms (child r ms s held m)) → (b : ℕ) (u : Trail) (run : Run)
         → Holds (children r ms setting room enter s held ns b u run) (λ a t run'. Looped r ms s held ns b run.best a run'.best)
     unfolding children
     children_least enter E s held [] k b u run = record { le = omega arith; low = omega arith; high = omega arith; least = λ m i. absurd (not-nil i) }
@@ -112,7 +113,7 @@ module _ (r : Bytes) (ok : check r ≡ accepted) (ms : List Pair) (M : Laws r ms
         Whole = Holds (children r ms setting room enter s held (m ∷ ns) b u run) (λ a t run'. Looped r ms s held (m ∷ ns) b run.best a run'.best)
 
         go : (o : Outcome) → enter (child r ms s held m) run ≡ o → Holds (enter (child r ms s held m) run) (λ a t run'. Bounded r ms (child r ms s held m) run.best a run'.best)
-            → ((b' : ℕ) (u' : List ℕ) (run' : Run) → Holds (children r ms setting room enter s held ns b' u' run') (λ a t run''. Looped r ms s held ns b' run'.best a run''.best))
+            → ((b' : ℕ) (u' : Trail) (run' : Run) → Holds (children r ms setting room enter s held ns b' u' run') (λ a t run''. Looped r ms s held ns b' run'.best a run''.best))
             → Whole
         go (halts n p) q e ih = rw (q, children) tt
         go (answers a1 t1 run1) q e ih = less (two (ltb a1 b))
@@ -121,7 +122,7 @@ module _ (r : Bytes) (ok : check r ≡ accepted) (ms : List Pair) (M : Laws r ms
             mine = rw q at e
 
             -- the child's claim, and that of the loop over the others
-            join : (b' : ℕ) → b' ≤ b → b' ≤ a1 → (a : ℕ) (t : List ℕ) (run2 : Run) → Looped r ms s held ns b' run1.best a run2.best → Looped r ms s held (m ∷ ns) b run.best a run2.best
+            join : (b' : ℕ) → b' ≤ b → b' ≤ a1 → (a : ℕ) (t : Trail) (run2 : Run) → Looped r ms s held ns b' run1.best a run2.best → Looped r ms s held (m ∷ ns) b run.best a run2.best
             join b' x y a t run2 w =
                 let l1 = mine.low in
                 let l2 = mine.high in
@@ -137,7 +138,7 @@ module _ (r : Bytes) (ok : check r ≡ accepted) (ms : List Pair) (M : Laws r ms
                       (λ i'. omega (arith, w.least z i' τ h)) (mem_cons i);
                 }
 
-            on : (b' : ℕ) (u' : List ℕ) → b' ≤ b → b' ≤ a1 → Holds (children r ms setting room enter s held ns b' u' run1) (λ a t run2. Looped r ms s held (m ∷ ns) b run.best a run2.best)
+            on : (b' : ℕ) (u' : Trail) → b' ≤ b → b' ≤ a1 → Holds (children r ms setting room enter s held ns b' u' run1) (λ a t run2. Looped r ms s held (m ∷ ns) b run.best a run2.best)
             on b' u' x y =
                 holds_map (λ a t run2. Looped r ms s held ns b' run1.best a run2.best) (λ a t run2. Looped r ms s held (m ∷ ns) b run.best a run2.best)
                 (join b' x y) (children r ms setting room enter s held ns b' u' run1) (ih b' u' run1)
@@ -178,9 +179,9 @@ module _ (r : Bytes) (ok : check r ≡ accepted) (ms : List Pair) (M : Laws r ms
     unfolding branch
     branch_least enter E s run I =
         holds_lower (λ a b. Looped r ms s (held_of r ms s) (tried r ms setting room s ns run.best) s.index run.best a b) (λ a b. Bounded r ms s run.best a b) close
-        (children r ms setting room enter s (held_of r ms s) (tried r ms setting room s ns run.best) s.index s.removals run)
+        (children r ms setting room enter s (held_of r ms s) (tried r ms setting room s ns run.best) s.index s.trail run)
         (children_least enter E s (held_of r ms s) (tried r ms setting room s ns run.best)
-        (λ m i. child_inv s m I (tried_removable r ms setting room s run.best m i)) s.index s.removals run)
+        (λ m i. child_inv s m I (tried_removable r ms setting room s run.best m i)) s.index s.trail run)
       where
         ns : List ℕ
         ns = removable r ms s.pieces s.next
@@ -233,11 +234,11 @@ module _ (r : Bytes) (ok : check r ≡ accepted) (ms : List Pair) (M : Laws r ms
       -- V2 and V3 of a state: best falls at most to the answer, and no series allowed from the state scores less than both best and the answer.
       -- By induction on the depth. A state that Int stops: no series saves more than J. Along the loop best never rises, so each child is entered with a best
       -- that is at most the state's and at least the least of it and the answers so far
-      pub visit_bounded : (f : ℕ) (s : State) (run : Run) (a : ℕ) (t : List ℕ) (run' : Run) → Inv r ms s → visit r ms setting room f s run ≡ answers a t run' → Bounded r ms s run.best a run'.best
+      pub visit_bounded : (f : ℕ) (s : State) (run : Run) (a : ℕ) (t : Trail) (run' : Run) → Inv r ms s → visit r ms setting room f s run ≡ answers a t run' → Bounded r ms s run.best a run'.best
       visit_bounded f s run a t run' I e = holds_at (λ a t run'. Bounded r ms s run.best a run'.best) (visit r ms setting room f s run) a t run' (visit_least f s run I) e
 
       -- the search: no allowed series, the empty one included, scores less than the index. At the root best is n - 1, and the answer is at most that
-      pub search_least : (a : ℕ) (t : List ℕ) (run : Run) → search r ms setting room ≡ answers a t run → (τ : List ℕ) → allowed r ms τ ≡ true → a ≤ series_score r ms τ
+      pub search_least : (a : ℕ) (t : Trail) (run : Run) → search r ms setting room ≡ answers a t run → (τ : List ℕ) → allowed r ms τ ≡ true → a ≤ series_score r ms τ
       unfolding search root allowed series_score
       search_least a t run e τ h =
           let run0 : Run = record { best = bonds r - 1; states = 0; memo = [] } in
@@ -246,7 +247,7 @@ module _ (r : Bytes) (ok : check r ≡ accepted) (ms : List Pair) (M : Laws r ms
           omega (arith, b.least τ (allowed_allows r ms 0 (all_bonds r ∷ []) τ h), c)
 
       -- so the index is the least score, and the trail is a series that has it
-      pub search_is_least : (a : ℕ) (t : List ℕ) (run : Run) → search r ms setting room ≡ answers a t run → IsLeastScore r ms a
+      pub search_is_least : (a : ℕ) (t : Trail) (run : Run) → search r ms setting room ≡ answers a t run → IsLeastScore r ms a
       search_is_least a t run e =
           let w = search_trail r ok ms setting room a t run e in
-          record { least = search_least a t run e; series = t; is_allowed = w.0; scores = sym w.1 }
+          record { least = search_least a t run e; series = t.numbers; is_allowed = w.0; scores = sym w.1 }

@@ -27,6 +27,7 @@ use Rattle.bounds.specs.Inner.Removals.{PiecesWithin}
 use Rattle.bounds.proofs.Numbers.{mem_sum}
 use Rattle.bounds.proofs.Steps.{step_apart, step_falls}
 use Rattle.search.specs.Setting.{Setting, has_memo}
+use Rattle.search.specs.Trail.{Trail}
 use Rattle.search.specs.State.{removable, remove}
 use Rattle.search.specs.Search.{Run, answers, search}
 use Rattle.search.specs.Series.{allowed, allowed_from, series_score, series_from, all_series, least_of, least_score, IsLeastScore}
@@ -123,11 +124,11 @@ module _ (r : Bytes) (ok : check r ≡ accepted) (ms : List Pair) (M : Laws r ms
 
   module _ (setting : Setting) (room : ℕ) where
     -- with the memo off, whatever the bounds, the index is the least score
-    pub search_score : has_memo setting ≡ false → (a : ℕ) (t : List ℕ) (run : Run) → search r ms setting room ≡ answers a t run → a ≡ least_score r ms
+    pub search_score : has_memo setting ≡ false → (a : ℕ) (t : Trail) (run : Run) → search r ms setting room ≡ answers a t run → a ≡ least_score r ms
     search_score off a t run e = sym (least_is_lem a (search_is_least r ok ms M setting room off a t run e))
 
     -- with the memo on or off it is never below: it is the score of an allowed series
-    pub search_above : (a : ℕ) (t : List ℕ) (run : Run) → search r ms setting room ≡ answers a t run → least_score r ms ≤ a
+    pub search_above : (a : ℕ) (t : Trail) (run : Run) → search r ms setting room ≡ answers a t run → least_score r ms ≤ a
     search_above a t run e =
         let w = search_trail r ok ms setting room a t run e in
-        omega (arith, w.1, least_score_lem.least t w.0)
+        omega (arith, w.1, least_score_lem.least t.numbers w.0)

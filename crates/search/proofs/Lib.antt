@@ -4,6 +4,7 @@ pub mod Lists
 pub mod Parts
 pub mod Refine
 pub mod TrailClaim
+pub mod Written
 pub mod Bridge
 pub mod Least
 pub mod LeastScore

@@ -10,7 +10,7 @@ use mathlib.Core.List.Memᴰ.{eq_of_singleton as mem_one}
 use mathlib.Core.List.Memᴰ.{head as m_head}
 use mathlib.Core.List.Memᴰ.{not-nil}
 use mathlib.Core.List.Memᴰ.{tail as m_tail}
-use mathlib.Core.List.{List, [], ◌∷◌, ◌++◌, flat_map, Memᴰ as Mem}
+use mathlib.Core.List.{List, [], ◌∷◌, ◌++◌, map, flat_map, Memᴰ as Mem}
 use Prim.Native.Nat.{ℕ, ◌+◌, ◌≤◌}
 use native.Mathlib.Omega.{arith}
 use lib.Bits.{bit_and}
@@ -93,6 +93,11 @@ pub sum_flat : (f : ℕ → ℕ) (g : ℕ → List ℕ) (P : List ℕ) → ((p :
 unfolding flat_map
 sum_flat f g [] h = omega arith
 sum_flat f g (p ∷ P) h = omega (arith, sum_append f (g p) (flat_map g P), h p (m_head refl), sum_flat f g P (λ q i. h q (m_tail i)))
+
+-- a sum of what a list is mapped to
+pub sum_map : (f g : ℕ → ℕ) (l : List ℕ) → sum_of f (map g l) ≡ sum_of (λ x. f (g x)) l
+sum_map f g [] = refl
+sum_map f g (x ∷ l) = omega (arith, sum_map f g l)
 
 -- ---- sets that are apart
 

@@ -1,12 +1,13 @@
 -- Demand 3: what score's answer says of the record, for every setting and every room.
 -- Assumes of the record that rows 1 to 6 accept it, or that it is scored, from which that follows; nothing else.
-use mathlib.Core.Path.{◌≡◌, refl, sym, ◌∙◌}
+use mathlib.Core.Path.{◌≡◌, refl, sym, ap, ◌∙◌}
 use mathlib.Core.Bool.{Bool, true, false, ◌||◌}
 use mathlib.Core.Logic.{inl, inr}
-use mathlib.Core.List.{List, [], ◌∷◌, Memᴰ as Mem}
+use mathlib.Core.List.Memᴰ.{of_map as mem_of_map}
+use mathlib.Core.List.{List, [], ◌∷◌, map, Memᴰ as Mem}
 use Prim.Native.Nat.{ℕ, ◌+◌, ◌-◌, ◌*◌, ◌≤◌, ◌<◌}
 use native.Mathlib.Omega.{arith}
-use lib.ListN.{length, take, length-take}
+use lib.ListN.{length, length-take, length-map}
 use lib.Dec.{ltb}
 use borrow.Author.Tests.{ltb-false, ne_eqb, eqb-true}
 use Rattle.bitset.specs.Bits.{Ascending}
@@ -15,11 +16,12 @@ use Rattle.molecule.specs.Lists.{Bytes}
 use Rattle.molecule.specs.Record.{bonds, all_bonds}
 use Rattle.molecule.specs.Check.{Answer, accepted, refused, row, check}
 use Rattle.molecule.proofs.Accepted.{row_next}
-use Rattle.matches.specs.Table.{Table, match_table, pairs_of, pairs}
+use Rattle.matches.specs.Table.{Table, match_table, pairs_of, pairs, size_of}
 use Rattle.matches.specs.Laws.{Laws}
 use Rattle.matches.specs.Rows.{table_answer}
-use Rattle.matches.proofs.Laws.{table_laws, pairs_length}
+use Rattle.matches.proofs.Laws.{table_laws, pairs_length, size_of_two}
 use Rattle.search.specs.Setting.{Setting, has_memo, Room, memo_room}
+use Rattle.search.specs.Trail.{Trail, sizes_less_one, read}
 use Rattle.search.specs.Search.{Run, Outcome, answers, halts, search}
 use Rattle.search.specs.Series.{allowed, series_score, least_score, IsLeastScore}
 use Rattle.search.specs.Pathway.{is_pathway, HasPathway, IsFewest, joins}
@@ -27,6 +29,7 @@ use Rattle.search.specs.Answer.{entry_answer, scored, turned_back, searched, sco
 use Rattle.search.specs.Answer.{Finished}
 use Rattle.search.specs.Series.{saved}
 use Rattle.search.specs.Inner.Claims.{Allows, Ends, Counts}
+use Rattle.search.proofs.Lists.{sum_map}
 use Rattle.search.proofs.Refine.{allows_from, allows_ascends}
 use Rattle.search.proofs.TrailClaim.{search_series, search_trail}
 use Rattle.search.proofs.Least.{search_least, search_is_least}
@@ -38,32 +41,41 @@ use Rattle.search.proofs.Pathways.{series_pathway, series_length, one_bond}
 -- of an accepted record: no pathway has fewer joins than the least score, and the least score is the fewest joins
 pub use Rattle.search.proofs.Fewest.{pathway_series, fewest, least_is_fewest, fewest_is}
 
--- none of rows 1 to 8: rows 1 to 6 accept the record, and the trail has 32 numbers or more
-pub entry_says : (r : Bytes) (setting : Setting) (room : Room) → entry_answer r setting room ≡ accepted → (check r ≡ accepted) × (32 ≤ room.trail)
+-- none of rows 1 to 8: rows 1 to 6 accept the record, and the trail has 64 numbers or more
+pub entry_says : (r : Bytes) (setting : Setting) (room : Room) → entry_answer r setting room ≡ accepted → (check r ≡ accepted) × (64 ≤ room.trail)
 unfolding entry_answer
 entry_says r setting room e = go (check r) refl
   where
     short : Bool
-    short = ltb room.trail 32 || ltb room.desk 4096
+    short = ltb room.trail 64 || ltb room.desk 4096
 
-    go : (o : Answer) → check r ≡ o → (check r ≡ accepted) × (32 ≤ room.trail)
+    go : (o : Answer) → check r ≡ o → (check r ≡ accepted) × (64 ≤ room.trail)
     go (refused k p) q = let z : refused k p ≡ accepted = rw (q, entry_answer) at e in let y : ◌≡◌ {A = ℕ} 0 1 = cc in absurd (omega arith)
     go accepted q =
         let a = (row_next 7 0 (ltb 3 setting.bounds || ltb 1 setting.memo) (row 8 0 short accepted) (rw (q, entry_answer) at e)).1 in
-        let b = (or_false (ltb room.trail 32) (ltb room.desk 4096) (row_next 8 0 short accepted a).0).0 in
-        (q, ltb-false room.trail 32 b)
+        let b = (or_false (ltb room.trail 64) (ltb room.desk 4096) (row_next 8 0 short accepted a).0).0 in
+        (q, ltb-false room.trail 64 b)
+
+-- the trail that a search answers has fewer than 32 removals, so that they fit the trail that is lent, and as many sizes
+pub search_fits : (r : Bytes) → check r ≡ accepted → (setting : Setting) (room index : ℕ) (trail : Trail) (run : Run) → search r (pairs r) setting room ≡ answers index trail run
+    → (length trail.numbers < 32) × (length trail.sizes ≡ length trail.numbers)
+search_fits r ok setting room index trail run e =
+    let w = search_series r ok (pairs r) setting room index trail run e in (
+      allowed_fewer r ok (pairs r) (table_laws r ok) trail.numbers (search_trail r ok (pairs r) setting room index trail run e).0,
+      ap length w.2 ∙ length-map trail.numbers (size_of (pairs r)),
+    )
 
 -- a score is the answer of a search of the record's matches
-record FromSearch (r : Bytes) (setting : Setting) (room : Room) (index matches states : ℕ) (trail : List ℕ) : Type 0 where
+record FromSearch (r : Bytes) (setting : Setting) (room : Room) (index matches states : ℕ) (trail : Trail) : Type 0 where
   ok : check r ≡ accepted
-  long : 32 ≤ room.trail
+  long : 64 ≤ room.trail
   run : Run
   is : search r (pairs r) setting (memo_room room.memo) ≡ answers index trail run
   count : matches ≡ length (match_table r).matches
   entered : states ≡ run.states
 
 -- by the cases of the rows and of the search's outcome
-score_searched : (r : Bytes) (setting : Setting) (room : Room) (index matches states : ℕ) (trail : List ℕ) → score_answer r setting room ≡ scored index matches states trail
+score_searched : (r : Bytes) (setting : Setting) (room : Room) (index matches states : ℕ) (trail : Trail) → score_answer r setting room ≡ scored index matches states trail
     → FromSearch r setting room index matches states trail
 unfolding score_answer searched
 score_searched r setting room a k n t e = entry (entry_answer r setting room) refl
@@ -102,7 +114,7 @@ memo_off setting e = ne_eqb setting.memo 1 (λ f. omega arith)
 
 -- ---- a record that is scored
 
-module _ (r : Bytes) (setting : Setting) (room : Room) (index matches states : ℕ) (trail : List ℕ) (e : score_answer r setting room ≡ scored index matches states trail) where
+module _ (r : Bytes) (setting : Setting) (room : Room) (index matches states : ℕ) (trail : Trail) (e : score_answer r setting room ≡ scored index matches states trail) where
   it : FromSearch r setting room index matches states trail
   it = score_searched r setting room index matches states trail e
 
@@ -118,40 +130,56 @@ module _ (r : Bytes) (setting : Setting) (room : Room) (index matches states : �
   scored_matches = it.count ∙ sym (pairs_length (match_table r))
 
   -- ---- the trail, whatever the bounds and the memo
-  -- An answer is the index of a state that answers its own, with that state's removals. The state's pieces lie in those that the same removals leave with nothing let go, so each removal is allowed there (TrailClaim)
+  -- An answer is the index of a state that answers its own, with that state's trail. The state's pieces lie in those that its removals leave with nothing let go, so each removal is allowed there (TrailClaim)
 
-  series : Allows r (pairs r) 0 (all_bonds r ∷ []) trail
+  series : Allows r (pairs r) 0 (all_bonds r ∷ []) trail.numbers
   series = (search_series r it.ok (pairs r) setting (memo_room room.memo) index trail it.run it.is).0
 
   -- the removals are strictly increasing: each number is below all later ones
-  pub trail_ascends : Ascending trail
-  trail_ascends = allows_ascends r (pairs r) 0 (all_bonds r ∷ []) trail series
+  pub trail_ascends : Ascending trail.numbers
+  trail_ascends = allows_ascends r (pairs r) 0 (all_bonds r ∷ []) trail.numbers series
 
   -- they are numbers of matches
-  pub trail_below : (m : ℕ) → Mem m trail → m < matches
-  trail_below m i = omega (arith, (allows_from r (pairs r) 0 (all_bonds r ∷ []) trail series m i).1, scored_matches)
+  pub trail_below : (m : ℕ) → Mem m trail.numbers → m < matches
+  trail_below m i = omega (arith, (allows_from r (pairs r) 0 (all_bonds r ∷ []) trail.numbers series m i).1, scored_matches)
 
   -- they are an allowed series
-  pub trail_allowed : allowed r (pairs r) trail ≡ true
+  pub trail_allowed : allowed r (pairs r) trail.numbers ≡ true
   trail_allowed = (search_trail r it.ok (pairs r) setting (memo_room room.memo) index trail it.run it.is).0
 
   -- and the index is its score
-  pub trail_scores : index ≡ series_score r (pairs r) trail
+  pub trail_scores : index ≡ series_score r (pairs r) trail.numbers
   trail_scores = (search_trail r it.ok (pairs r) setting (memo_room room.memo) index trail it.run it.is).1
 
   -- no subtraction in it is cut short
-  pub trail_exact : index + saved (pairs r) trail ≡ bonds r - 1
-  trail_exact = omega (arith, trail_scores, series_exact r it.ok (pairs r) laws trail trail_allowed)
+  pub trail_exact : index + saved (pairs r) trail.numbers ≡ bonds r - 1
+  trail_exact = omega (arith, trail_scores, series_exact r it.ok (pairs r) laws trail.numbers trail_allowed)
 
   -- they are at most n / 2
-  pub trail_half : 2 * length trail ≤ bonds r
-  trail_half = allowed_length r it.ok (pairs r) laws trail trail_allowed
+  pub trail_half : 2 * length trail.numbers ≤ bonds r
+  trail_half = allowed_length r it.ok (pairs r) laws trail.numbers trail_allowed
 
   -- and fewer than 32, so that they fit the trail that is lent
-  pub trail_fits : length trail < 32
-  trail_fits = allowed_fewer r it.ok (pairs r) laws trail trail_allowed
+  pub trail_fits : length trail.numbers < 32
+  trail_fits = (search_fits r it.ok setting (memo_room room.memo) index trail it.run it.is).0
 
-  pub trail_long : 32 ≤ room.trail
+  -- ---- the sizes in the trail
+
+  -- they are those of its matches
+  pub trail_sizes : trail.sizes ≡ map (size_of (pairs r)) trail.numbers
+  trail_sizes = (search_series r it.ok (pairs r) setting (memo_room room.memo) index trail it.run it.is).2
+
+  -- each is two at least
+  pub sizes_two : (k : ℕ) → Mem k trail.sizes → 2 ≤ k
+  sizes_two k i =
+      let w = mem_of_map (size_of (pairs r)) trail.numbers (rw trail_sizes at i) in
+      omega (arith, w.2, size_of_two r (pairs r) laws w.0 (allows_from r (pairs r) 0 (all_bonds r ∷ []) trail.numbers series w.0 w.1).1)
+
+  -- and bonds less one is index plus the sum of (size less one)
+  pub sizes_sum : bonds r - 1 ≡ index + sizes_less_one trail
+  sizes_sum = rw trail_sizes (omega (arith, trail_exact, sum_map (λ k. k - 1) (size_of (pairs r)) trail.numbers))
+
+  pub trail_long : 64 ≤ room.trail
   trail_long = it.long
 
   -- ---- the index
@@ -179,16 +207,16 @@ module _ (r : Bytes) (setting : Setting) (room : Room) (index matches states : �
   -- The trail is an allowed series, and the joins of an allowed series are a pathway with as many joins as it scores (Pathways)
 
   -- the joins that the trail yields are a pathway of the record
-  pub joins_pathway : is_pathway r (joins r (pairs r) trail) ≡ true
-  joins_pathway = series_pathway r it.ok trail trail_allowed
+  pub joins_pathway : is_pathway r (joins r (pairs r) trail.numbers) ≡ true
+  joins_pathway = series_pathway r it.ok trail.numbers trail_allowed
 
   -- with exactly index joins
-  pub joins_count : length (joins r (pairs r) trail) ≡ index
-  joins_count = series_length r it.ok trail trail_allowed ∙ sym trail_scores
+  pub joins_count : length (joins r (pairs r) trail.numbers) ≡ index
+  joins_count = series_length r it.ok trail.numbers trail_allowed ∙ sym trail_scores
 
   -- so there is a pathway with exactly index joins
   pub index_pathway : HasPathway r index
-  index_pathway = record { path = joins r (pairs r) trail; is_one = joins_pathway; join_count = joins_count }
+  index_pathway = record { path = joins r (pairs r) trail.numbers; is_one = joins_pathway; join_count = joins_count }
 
   -- ---- no pathway has fewer joins
   -- Out of every pathway comes an allowed series that scores at most its joins (Owing, Fewest). So the least score is the fewest joins of any pathway
@@ -218,15 +246,15 @@ module _ (r : Bytes) (setting : Setting) (room : Room) (index matches states : �
   pub memo_within : (run : Run) × (search r (pairs r) setting (memo_room room.memo) ≡ answers index trail run) × (states ≡ run.states) × (length run.memo ≤ memo_room room.memo)
   memo_within = (it.run, it.is, it.entered, counts.2)
 
--- where the first k of the numbers lent are the removals of a score, there are k removals
-pub scored_length : (r : Bytes) (setting : Setting) (room : Room) (index matches states k : ℕ) (numbers : List ℕ) → score_answer r setting room ≡ scored index matches states (take k numbers)
-    → length numbers ≡ room.trail → k ≡ length (take k numbers)
-scored_length r setting room index matches states k numbers e l =
+-- where the trail of k removals that is read in what was lent is that of a score, there are k removals
+pub scored_length : (r : Bytes) (setting : Setting) (room : Room) (index matches states k : ℕ) (lent : List ℕ) → score_answer r setting room ≡ scored index matches states (read k lent)
+    → length lent ≡ room.trail → k ≡ length (read k lent).numbers
+scored_length r setting room index matches states k lent e l =
     omega (
       arith,
-      length-take k numbers,
-      trail_fits r setting room index matches states (take k numbers) e,
-      trail_long r setting room index matches states (take k numbers) e,
+      length-take k lent,
+      trail_fits r setting room index matches states (read k lent) e,
+      trail_long r setting room index matches states (read k lent) e,
     )
 
 -- ---- an accepted record

@@ -11,6 +11,7 @@ use Rattle.matches.specs.Rows.{parts_room}
 use Rattle.bounds.specs.Numbers.{ceil_log2}
 use Rattle.bounds.specs.Bounds.{usable_edges, int_term, int_bound, usable_edges_bound, left_out, least_size}
 use Rattle.search.specs.Setting.{Setting, Room}
+use Rattle.search.specs.Trail.{Trail, no_removal, with_removal}
 use Rattle.search.specs.State.{struck, inside, big_components, root, removable, mask_of, keep, remove, child}
 use Rattle.search.specs.Memo.{Entry, Memo, goes, stopped, full, same_key, recall, remember, key_of, entry_of}
 use Rattle.search.specs.Search.{lower, int_stops, ask, tried, children, branch, counted, visit, search}
@@ -57,7 +58,7 @@ boundless memo = record { bounds = 0; memo = memo; budget = 4294967295 }
 
 -- words of parts, pairs and memo; trail and desk as they must be
 abbrev pub lent : ℕ → ℕ → ℕ → Room
-lent parts pairs memo = record { trail = 32; p = parts_room parts; pairs = pairs; memo = memo; desk = 4096 }
+lent parts pairs memo = record { trail = 64; p = parts_room parts; pairs = pairs; memo = memo; desk = 4096 }
 
 -- ample tables
 abbrev pub ample : Room
@@ -65,7 +66,11 @@ ample = lent 1048576 1048576 1048576
 
 -- ---- the starred rows
 
--- a molecule, a setting, the room lent, and what document 01 says
+-- the trail of one removal, of match 0, whose fragments have two bonds
+abbrev pub first : Trail
+first = with_removal no_removal 0 2
+
+-- a molecule, a setting, the room lent, and what document 01 says, with the sizes of document 02, 3/14
 pub record Row : Type 0 where
   pub bytes : Bytes
   pub setting : Setting
@@ -78,23 +83,23 @@ try r setting room a = record { bytes = r; setting = setting; room = room; says 
 -- the starred rows, in the order of the document
 abbrev pub starred : List Row
 starred =
-    try (chain 1) usual ample (scored 0 0 1 []) ∷
-    try (chain 2) usual ample (scored 1 0 1 []) ∷
-    try (chain 3) usual ample (scored 2 0 1 []) ∷
-    try (chain 4) usual ample (scored 2 1 2 (0 ∷ [])) ∷
-    try (chain 5) usual ample (scored 3 3 4 (0 ∷ [])) ∷
-    try (chain 5) (boundless 0) ample (scored 3 3 4 (0 ∷ [])) ∷
-    try (chain 5) (boundless 1) ample (scored 3 3 4 (0 ∷ [])) ∷
-    try (carbons 4) usual ample (scored 2 3 4 (0 ∷ [])) ∷
-    try oxygen usual ample (scored 3 0 1 []) ∷
+    try (chain 1) usual ample (scored 0 0 1 no_removal) ∷
+    try (chain 2) usual ample (scored 1 0 1 no_removal) ∷
+    try (chain 3) usual ample (scored 2 0 1 no_removal) ∷
+    try (chain 4) usual ample (scored 2 1 2 first) ∷
+    try (chain 5) usual ample (scored 3 3 4 first) ∷
+    try (chain 5) (boundless 0) ample (scored 3 3 4 first) ∷
+    try (chain 5) (boundless 1) ample (scored 3 3 4 first) ∷
+    try (carbons 4) usual ample (scored 2 3 4 first) ∷
+    try oxygen usual ample (scored 3 0 1 no_removal) ∷
     try (chain 4) (with_budget 1) ample (turned_back 11 1) ∷
-    try (chain 4) (with_budget 2) ample (scored 2 1 2 (0 ∷ [])) ∷
+    try (chain 4) (with_budget 2) ample (scored 2 1 2 first) ∷
     try (chain 4) usual (lent 71 4096 0) (turned_back 9 2) ∷
-    try (chain 4) usual (lent 72 4096 0) (scored 2 1 2 (0 ∷ [])) ∷
+    try (chain 4) usual (lent 72 4096 0) (scored 2 1 2 first) ∷
     try (chain 4) usual (lent 4096 3 0) (turned_back 10 1) ∷
-    try (chain 4) usual (lent 4096 4 0) (scored 2 1 2 (0 ∷ [])) ∷
+    try (chain 4) usual (lent 4096 4 0) (scored 2 1 2 first) ∷
     try (chain 5) (boundless 1) (lent 4096 4096 159) (turned_back 12 2) ∷
-    try (chain 5) (boundless 1) (lent 4096 4096 160) (scored 3 3 4 (0 ∷ [])) ∷
+    try (chain 5) (boundless 1) (lent 4096 4096 160) (scored 3 3 4 first) ∷
     try triangle usual ample (turned_back 6 3) ∷ []
 
 -- every row's answer is what the document says
@@ -106,23 +111,30 @@ starred_rows = refl
 pub other_rows :
     score_answer (chain 4) (record { bounds = 4; memo = 0; budget = 9 }) ample
     ∷ score_answer (chain 4) (record { bounds = 0; memo = 2; budget = 9 }) ample
-    ∷ score_answer (chain 4) usual (record { trail = 31; p = parts_room 4096; pairs = 4096; memo = 0; desk = 4096 })
-    ∷ score_answer (chain 4) usual (record { trail = 32; p = parts_room 4096; pairs = 4096; memo = 0; desk = 4095 })
+    ∷ score_answer (chain 4) usual (record { trail = 63; p = parts_room 4096; pairs = 4096; memo = 0; desk = 4096 })
+    ∷ score_answer (chain 4) usual (record { trail = 64; p = parts_room 4096; pairs = 4096; memo = 0; desk = 4095 })
     ∷ score_answer (chain 4) (with_budget 0) ample
     ∷ score_answer (chain 3) (record { bounds = 1; memo = 1; budget = 9 }) (lent 4096 4096 0)
     ∷ score_answer (chain 3) (record { bounds = 0; memo = 1; budget = 9 }) (lent 4096 4096 0)
     ∷ []
-    ≡ turned_back 7 0 ∷ turned_back 7 0 ∷ turned_back 8 0 ∷ turned_back 8 0 ∷ turned_back 11 0 ∷ scored 2 0 1 [] ∷ turned_back 12 1 ∷ []
+    ≡ turned_back 7 0 ∷ turned_back 7 0 ∷ turned_back 8 0 ∷ turned_back 8 0 ∷ turned_back 11 0 ∷ scored 2 0 1 no_removal ∷ turned_back 12 1 ∷ []
 unfolding compute
 other_rows = refl
 
 -- ---- what is lent, afterwards
 
 pub lent_after_score :
-    trail_after (score_answer (chain 4) usual ample) (replicate 34 9) ++ table_after (score_answer (chain 4) usual ample) (5 ∷ 5 ∷ [])
-    ≡ replicate 32 0 ++ (9 ∷ 9 ∷ 0 ∷ 0 ∷ [])
+    trail_after (score_answer (chain 4) usual ample) (replicate 66 9) ++ table_after (score_answer (chain 4) usual ample) (5 ∷ 5 ∷ [])
+    ≡ replicate 32 0 ++ (2 ∷ replicate 31 0) ++ (9 ∷ 9 ∷ 0 ∷ 0 ∷ [])
 unfolding compute
 lent_after_score = refl
+
+-- the chain of 8 falls by a match of size 4 and then by one of size 2: 8 - 1 is 3 + (4 - 1) + (2 - 1)
+pub eight_removals :
+    trail_after (score_answer (chain 8) usual ample) (replicate 65 9)
+    ≡ (0 ∷ 11 ∷ replicate 30 0) ++ (4 ∷ 2 ∷ replicate 30 0) ++ (9 ∷ [])
+unfolding compute
+eight_removals = refl
 
 -- two numbers of the trail and then two words of a table
 abbrev pub lent_after : ScoreAnswer → List ℕ
@@ -144,9 +156,9 @@ lent_after_refusals = refl
 
 -- ---- the memo: its key is a multiset, so pieces in another order are the same key
 
--- what a state of the chain of 5 with these pieces, index and removals stores
+-- what a state of the chain of 5 with these pieces, index and match numbers stores; sizes are not stored
 abbrev pub stores : List ℕ → ℕ → List ℕ → Entry
-stores pieces index removals = entry_of (chain 5) (record { pieces = pieces; index = index; largest = 5; next = 0; removals = removals })
+stores pieces index removals = entry_of (chain 5) (record { pieces = pieces; index = index; largest = 5; next = 0; trail = record { numbers = removals; sizes = [] } })
 
 -- stored are pieces of bonds 0 and 1 and of bonds 2, 3 and 4, with index 3 and removals 1, in a memo of one entry
 abbrev pub asks : List ℕ → ℕ → List ℕ → Memo

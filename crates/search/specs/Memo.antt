@@ -43,4 +43,4 @@ key_of r s = sort (map (label r) s.pieces)
 
 -- the entry that a state stores
 unfoldable pub entry_of : Bytes → State → Entry
-entry_of r s = record { key = key_of r s; index = s.index; removals = s.removals }
+entry_of r s = record { key = key_of r s; index = s.index; removals = s.trail.numbers }

@@ -6,6 +6,7 @@ use Rattle.matches.specs.Table.{Pair, size_of}
 use Rattle.bounds.specs.Numbers.{max_of, ceil_log2}
 use Rattle.bounds.specs.Bounds.{int_bound, least_size}
 use Rattle.search.specs.Setting.{Setting, has_int, has_matchable_edges, has_memo}
+use Rattle.search.specs.Trail.{Trail}
 use Rattle.search.specs.State.{State, root, removable, mask_of, keep, child}
 use Rattle.search.specs.Memo.{Entry, Memo, goes, stopped, full, remember, entry_of}
 
@@ -17,7 +18,7 @@ pub record Run : Type 0 where
 
 -- a state's answer with its trail, or row 11 or 12 with its place
 pub data Outcome : Type 0 where
-  answers : ℕ → List ℕ → Run → Outcome
+  answers : ℕ → Trail → Run → Outcome
   halts : ℕ → ℕ → Outcome
 
 -- best lowered to the answer
@@ -44,7 +45,7 @@ module _ (r : Bytes) (ms : List Pair) (setting : Setting) (room : ℕ) where
   ]
 
   -- the children by the removals ns, in order; the least answer so far, with the first trail that has it. It starts as the state's own: a child's is less
-  unfoldable pub children : (State → Run → Outcome) → State → List ℕ → List ℕ → ℕ → List ℕ → Run → Outcome
+  unfoldable pub children : (State → Run → Outcome) → State → List ℕ → List ℕ → ℕ → Trail → Run → Outcome
   children enter s held [] answer trail run = answers answer trail run
   children enter s held (m ∷ ns) answer trail run = elim (enter (child r ms s held m) run) [
     | halts number place ↦ halts number place
@@ -59,14 +60,14 @@ module _ (r : Bytes) (ms : List Pair) (setting : Setting) (room : ℕ) where
   branch enter s run =
       let ns : List ℕ = removable r ms s.pieces s.next in
       let held : List ℕ = keep r ms (mask_of r ms ns 2) s.pieces in
-      lower (children enter s held (tried s ns run.best) s.index s.removals run)
+      lower (children enter s held (tried s ns run.best) s.index s.trail run)
 
   -- a state that has been counted: one that Int or the memo stops answers its index
   unfoldable pub counted : (State → Run → Outcome) → State → Run → Outcome
   counted enter s run = elim (int_stops s run.best) [
-    | true ↦ answers s.index s.removals run
+    | true ↦ answers s.index s.trail run
     | false ↦ elim (ask s run.memo) [
-      | stopped ↦ answers s.index s.removals run
+      | stopped ↦ answers s.index s.trail run
       | full ↦ halts 12 run.states
       | goes memo ↦ branch enter s (record { best = run.best; states = run.states; memo = memo })
     ]

@@ -1,4 +1,4 @@
--- Document 01, 'Search': a state, what is removable in it, letting go, and removing a match.
+-- Document 01, 'Search': a state, what is removable in it, letting go, and removing a match. Document 02, 3/14: every state carries both arrays of its trail.
 use Rattle.std.specs.Prelude.{Bool, ◌&&◌, ℕ, suc, ◌-◌, length, leb, eqb}
 use mathlib.Core.List.{List, [], ◌∷◌, ◌++◌, flat_map}
 use Rattle.std.specs.Int.Bits.{bit_and, bit_or}
@@ -7,14 +7,15 @@ use Rattle.molecule.specs.Lists.{Bytes, numbers_from, filter, any}
 use Rattle.molecule.specs.Record.{bonds, all_bonds}
 use Rattle.molecule.specs.Touch.{components}
 use Rattle.matches.specs.Table.{Pair, pair, size_of}
+use Rattle.search.specs.Trail.{Trail, no_removal, with_removal}
 
--- a state: its pieces, index, largest removed, and removals; next is one more than last removed, so 0 where that is −1
+-- a state: its pieces, index, largest removed, and trail; next is one more than last removed, so 0 where that is −1
 pub record State : Type 0 where
   pub pieces : List ℕ
   pub index : ℕ
   pub largest : ℕ
   pub next : ℕ
-  pub removals : List ℕ
+  pub trail : Trail
 
 -- the bonds of both fragments of match m
 unfoldable pub struck : List Pair → ℕ → ℕ
@@ -31,7 +32,7 @@ big_components r s = filter (λ c. leb 2 (size c)) (components r s)
 module _ (r : Bytes) (ms : List Pair) where
   -- the root holds all bonds as one piece, index n − 1, largest removed n, last removed −1
   unfoldable pub root : State
-  root = record { pieces = all_bonds r ∷ []; index = bonds r - 1; largest = bonds r; next = 0; removals = [] }
+  root = record { pieces = all_bonds r ∷ []; index = bonds r - 1; largest = bonds r; next = 0; trail = no_removal }
 
   -- removable are the matches numbered after last removed with both fragments inside pieces
   unfoldable pub removable : List ℕ → ℕ → List ℕ
@@ -56,5 +57,5 @@ module _ (r : Bytes) (ms : List Pair) where
     index = s.index - (size_of ms m - 1);
     largest = size_of ms m;
     next = suc m;
-    removals = s.removals ++ (m ∷ []);
+    trail = with_removal s.trail m (size_of ms m);
   }

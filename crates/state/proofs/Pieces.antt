@@ -26,6 +26,7 @@ use Rattle.molecule.proofs.Growing.{lead, rest, rest_word, rest_less, reach_one,
 use Rattle.molecule.proofs.Components.{own_sub, components_self, components_words}
 use Rattle.bounds.specs.Numbers.{sum_of}
 use Rattle.matches.specs.Table.{Pair, size_of}
+use Rattle.search.specs.Trail.{Trail, with_removal}
 use Rattle.search.specs.State.{State, big_components, keep, remove, child}
 use Rattle.state.specs.Inner.Pieces.{big_parts, fallen, Big, Owned, OwnedFragments, Chosen}
 
@@ -237,7 +238,7 @@ unfolding remove
 remove_is bytes ms touch pieces m h1 gone w b c =
     rw (c.first, c.both, flat_same (fallen touch gone) (λ p. big_components bytes (diff p gone)) pieces (λ p n. fallen_is bytes touch pieces gone p w n (b p n)))
 
-pub child_is : (bytes : Bytes) (ms : List Pair) (s : State) (held : List ℕ) (m z : ℕ) (pieces removals : List ℕ) → pieces ≡ remove bytes ms held m → removals ≡ s.removals ++ (m ∷ []) → size_of ms m ≡ z
-    → record { pieces = pieces; index = s.index - (z - 1); largest = z; next = m + 1; removals = removals } ≡ child bytes ms s held m
+pub child_is : (bytes : Bytes) (ms : List Pair) (s : State) (held : List ℕ) (m z : ℕ) (pieces : List ℕ) (trail : Trail) → pieces ≡ remove bytes ms held m → trail ≡ with_removal s.trail m z → size_of ms m ≡ z
+    → record { pieces = pieces; index = s.index - (z - 1); largest = z; next = m + 1; trail = trail } ≡ child bytes ms s held m
 unfolding child
-child_is bytes ms s held m z pieces removals p r e = rw (p, r, e, add-one)
+child_is bytes ms s held m z pieces trail p t e = rw (p, t, e, add-one)

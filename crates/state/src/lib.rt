@@ -1,35 +1,36 @@
 #![tactic(auto)]
 // A state of the search by value (src/state.rs), and the pieces that a removal leaves.
 // Numbers turn by `as`, shown to lose nothing: usize has no From, and a TryFrom would answer an error that never is.
-ghost use Rattle.std.specs.Prelude.{◌≡◌, List, ◌++◌, ℕ, ◌+◌, ◌-◌, ◌*◌, ◌^◌, ◌≤◌, ◌<◌, get_or};
+ghost use Rattle.std.specs.Prelude.{◌≡◌, List, ◌++◌, ℕ, ◌+◌, ◌-◌, ◌*◌, ◌^◌, ◌≤◌, ◌<◌, length, get_or};
 ghost use Rattle.arrayvec.specs.ArrayVec.{array_vec_len};
 ghost use Rattle.bitset.specs.Bits.{size, diff};
 ghost use Rattle.molecule.specs.Lists.{Bytes};
 ghost use Rattle.molecule.specs.Record.{bonds};
 ghost use Rattle.matches.specs.Table.{Pair, size_of};
 ghost use Rattle.search.specs.State.{root, keep, remove, child};
-ghost use Rattle.state.specs.Inner.Views.{state_of};
+ghost use Rattle.state.specs.Inner.Views.{trail_of, state_of};
 ghost use Rattle.state.specs.Inner.Pieces.{big_parts, fallen, bonds_in, bonds_left, Big, Owned, OwnedFragments, Chosen};
 
 use arrayvec::ArrayVec;
+use trail::Trail;
 
 pub mod scan;
+pub mod trail;
 
-// At most 32 pieces; the index; the size of the largest removed; the number after the last removed; at most 32 removals.
+// At most 32 pieces; the index; the size of the largest removed; the number after the last removed; the trail.
 #[derive(Clone, Debug, PartialEq, Eq, Drop)]
 pub struct State {
     pub pieces: ArrayVec<u64, 32>,
     pub index: u32,
     pub largest: u32,
     pub next: usize,
-    pub removals: ArrayVec<u32, 32>,
+    pub trail: Trail,
 }
 
 // All n bonds as one piece.
 pub fn root(n: usize) -> State
     requires { (1 ≤ n) × (n ≤ 64) }
-    ensures is { (bytes : Bytes) (ms : List Pair) → bonds bytes ≡ n → state_of result ≡ root bytes ms }
-    ensures counts { (array_vec_len result.pieces ≡ 1) × (array_vec_len result.removals ≡ 0) }
+    ensures { (bytes : Bytes) (ms : List Pair) → bonds bytes ≡ n → state_of result ≡ root bytes ms }
 {
     let mut pieces = ArrayVec::new();
     pieces.push(bitset::first_n(n as u32));
@@ -38,7 +39,7 @@ pub fn root(n: usize) -> State
         index: n as u32 - 1,
         largest: n as u32,
         next: 0,
-        removals: ArrayVec::new(),
+        trail: Trail::new(),
     }
 }
 
@@ -107,22 +108,13 @@ pub fn remove<const N: usize>(
     out.push(h1);
 }
 
-// To becomes the same removals. By hand, in place: a list that is answered by value, as the library's copies are, made a score take 1.05 of the time.
-pub fn copy_removals(removals: &ArrayVec<u32, 32>, to: &mut ArrayVec<u32, 32>)
-    ensures { to.new.items ≡ removals.now.items }
-{
-    to.clear();
-    to.try_extend_from_slice(removals).unwrap();
-}
-
 // The state after match m is removed from the pieces held; row is the match's.
 pub fn child(touch: &[u64; 64], s: &State, held: &[u64], m: usize, row: &[u64; 4]) -> State
     requires { Big held.now × (bonds_left (get_or row.now 2 0) held.now + 2 ≤ 64) × (m < 2 ^ 32)
-        × (1 ≤ get_or row.now 3 0) × (get_or row.now 3 0 < 2 ^ 32)
-        × (get_or row.now 3 0 - 1 ≤ s.now.index) × (array_vec_len s.now.removals < 32) }
-    ensures is { (bytes : Bytes) (ms : List Pair) → OwnedFragments bytes touch.now held.now → Chosen ms m (get_or row.now 0 0) (get_or row.now 2 0)
+        × (1 ≤ get_or row.now 3 0) × (get_or row.now 3 0 < 2 ^ 8)
+        × (get_or row.now 3 0 - 1 ≤ s.now.index) × (length (trail_of s.now.trail).numbers < 32) }
+    ensures { (bytes : Bytes) (ms : List Pair) → OwnedFragments bytes touch.now held.now → Chosen ms m (get_or row.now 0 0) (get_or row.now 2 0)
         → size_of ms m ≡ get_or row.now 3 0 → state_of result ≡ child bytes ms (state_of s.now) held.now m }
-    ensures counts { array_vec_len result.removals ≡ array_vec_len s.now.removals + 1 }
 {
     let [h1, _, struck, size] = *row;
     let mut c = State {
@@ -130,10 +122,9 @@ pub fn child(touch: &[u64; 64], s: &State, held: &[u64], m: usize, row: &[u64; 4
         index: s.index - (size as u32 - 1),
         largest: size as u32,
         next: m + 1,
-        removals: ArrayVec::new(),
+        trail: s.trail,
     };
     remove(touch, held, struck, h1, &mut c.pieces);
-    copy_removals(&s.removals, &mut c.removals);
-    c.removals.push(m as u32);
+    c.trail.push(m as u32, size as u8);
     c
 }

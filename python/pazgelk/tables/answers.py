@@ -38,6 +38,6 @@ def cells(result: Result, compared: Compared | None, *, details: bool) -> tuple[
     score: Answer = result.score if scored and result.score is not None else result.status.value
     found: tuple[Answer, ...] = (score, result.status.value, _or_empty(result.bonds), result.reason, result.note)
     if details:
-        removals = " ".join(str(number) for number in result.removals)
+        removals = " ".join(str(removal) for removal in result.removals)
         found += (_or_empty(result.matches), _or_empty(result.states), removals, _or_empty(result.row), _or_empty(result.place))
     return found if compared is None else (*found, compared.value)

@@ -22,7 +22,7 @@ pub record AnswerTold (a : ScoreAnswer) (answered : Result Score ScoreRefusal) (
 pub record Admitted (setting : Setting) (lent : Loan) : Type 0 where
   pub bounds : setting.bounds ≤ 3
   pub memo : setting.memo ≤ 1
-  pub trail : 32 ≤ length lent.trail
+  pub trail : 64 ≤ length lent.trail
   pub desk : 4096 ≤ length lent.desk
 
 -- every word of the four tables is 0

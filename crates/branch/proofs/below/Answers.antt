@@ -12,4 +12,4 @@ pub returns : goal.returns
 returns c =
     let S = c.args.searched.now in
     let M = S.molecule.now in
-    below_is M.bytes.now M.accepted S.rows.words.now S.listed _ c.requires.0 _ _ c.requires.1 M.touch M.touching _ c.child.ensures.is
+    below_is M.bytes.now M.accepted S.rows.words.now S.listed _ c.requires.0 _ _ c.requires.1 M.touch M.touching _ c.child.ensures

@@ -13,5 +13,5 @@ pub record Entered (r : Bytes) (s : State) : Type 0 where
   pub fine : Fine r (pairs r) (state_of s)
   pub connected : (p : ℕ) → Memᴰ p (state_of s).pieces → Connected r p
   -- the memo has room for both
-  pub both : length (state_of s).pieces + length (state_of s).removals ≤ 32
+  pub both : length (state_of s).pieces + length (state_of s).trail.numbers ≤ 32
   pub after : s.next ≤ length (pairs r)

@@ -16,7 +16,7 @@ use Rattle.recurse.specs.declared.visit.Halt.TheVariants.{Budget, Memo}
 use Rattle.recurse.specs.declared.visit.Gate.{Gate}
 use Rattle.recurse.specs.declared.visit.Gate.TheVariants.{Goes, Stops}
 use Rattle.memoize.specs.declared.Full.{Full}
-use Rattle.state.specs.Inner.Views.{state_of}
+use Rattle.state.specs.Inner.Views.{trail_of, state_of}
 use Rattle.branch.specs.Inner.Entered.{Entered}
 use Rattle.desk.specs.Inner.Cached.{Cached}
 use Rattle.memoize.specs.Inner.Stored.{Stored}
@@ -27,7 +27,7 @@ run_of run memo = record { best = run.best; states = run.states; memo = memo }
 
 -- what the code has found, with the memo that its table stores, is the definition's outcome
 abbrev pub found_as : Found → List Entry → search.Outcome
-found_as o memo = search.answers o.index o.trail.items (run_of o.run memo)
+found_as o memo = search.answers o.index (trail_of o.trail) (run_of o.run memo)
 
 -- and so is what ends it early: rows 11 and 12
 abbrev pub halted_as : Halt → search.Outcome
@@ -99,7 +99,7 @@ pub record Stopped (r : Bytes) (setting : Setting) (room : ℕ) (s : State) (run
   pub counted : Counted run next
   pub stored : Stored r words next.entries m
   pub stops : (f : ℕ) → search.visit r (pairs r) setting room (suc f) (state_of s) (run_of run m)
-      ≡ search.answers s.index (state_of s).removals (run_of next m)
+      ≡ search.answers s.index (state_of s).trail (run_of next m)
 
 -- it ends the search
 pub record Ended (r : Bytes) (setting : Setting) (room : ℕ) (s : State) (run : Run) (m : List Entry) (h : Halt) : Type 0 where
@@ -113,10 +113,10 @@ Gated r setting room s run m words (Err h) = Ended r setting room s run m h
 
 -- ---- what is found
 
--- the state's own index and removals as its answer
+-- the state's own index and trail as its answer
 pub record OwnAnswer (s : State) (run : Run) (o : Found) : Type 0 where
   pub index : o.index ≡ s.index
-  pub trail : o.trail.items ≡ s.removals.items
+  pub trail : trail_of o.trail ≡ (state_of s).trail
   pub carried : o.run ≡ run
 
 -- after a child's answer: what is carried is the child's, and so is the answer where it is less

@@ -1,6 +1,6 @@
 -- The statements that the theory of the search is about: an allowed series in words, what a state keeps, and what is claimed of an answer.
 use Rattle.std.specs.Prelude.{◌≡◌, true, ◌⊎◌, ℕ, suc, ◌+◌, ◌-◌, ◌*◌, ◌≤◌, ◌<◌, min, length}
-use mathlib.Core.List.{List, [], ◌∷◌, ◌++◌, Memᴰ}
+use mathlib.Core.List.{List, [], ◌∷◌, ◌++◌, map, Memᴰ}
 use Rattle.bitset.specs.Bits.{Sub, size}
 use Rattle.molecule.specs.Lists.{Bytes}
 use Rattle.molecule.specs.Record.{bonds, all_bonds}
@@ -9,6 +9,7 @@ use Rattle.matches.specs.Table.{Pair, pair, size_of}
 use Rattle.bounds.specs.Numbers.{sum_of}
 use Rattle.bounds.specs.Inner.Removals.{InOnePiece, PiecesWithin}
 use Rattle.search.specs.Setting.{Setting, has_memo}
+use Rattle.search.specs.Trail.{Trail}
 use Rattle.search.specs.State.{State, removable, mask_of, keep, remove}
 use Rattle.search.specs.Search.{Run, Outcome, answers, halts}
 use Rattle.search.specs.Series.{saved}
@@ -45,10 +46,10 @@ pub record Inv (r : Bytes) (ms : List Pair) (s : State) : Type 0 where
 pub record Fine (r : Bytes) (ms : List Pair) (s : State) : Type 0 where
   pub inv : Inv r ms s
   -- each removal took two bonds at least
-  pub weight : sum_of size s.pieces + 2 * length s.removals ≤ bonds r
+  pub weight : sum_of size s.pieces + 2 * length s.trail.numbers ≤ bonds r
   -- no subtraction of the search or its bounds is cut short
   pub covered : sum_of (λ (p : ℕ). size p - 1) s.pieces ≤ s.index
-  pub exact : s.index + saved ms s.removals ≡ bonds r - 1
+  pub exact : s.index + saved ms s.trail.numbers ≡ bonds r - 1
   -- some piece has as many bonds as the largest removed
   pub widest : (p : ℕ) × Memᴰ p s.pieces × (size p ≡ s.largest)
 
@@ -59,14 +60,18 @@ held_of r ms s = keep r ms (mask_of r ms (removable r ms s.pieces s.next) 2) s.p
 -- ---- what is claimed of an outcome
 
 -- Q holds of the answer, if there is one
-abbrev pub Holds : Outcome → (ℕ → List ℕ → Run → Type 0) → Type 0
+abbrev pub Holds : Outcome → (ℕ → Trail → Run → Type 0) → Type 0
 Holds (answers a t run) Q = Q a t run
 Holds (halts n p) Q = Unit {0}
 
--- V1: the trail is the state's removals and then a series allowed from its pieces, which scores the answer
-pub record Trail (r : Bytes) (ms : List Pair) (s : State) (a : ℕ) (t : List ℕ) : Type 0 where
+-- a trail, and then the matches of a series, each with its size
+abbrev pub with_series : List Pair → Trail → List ℕ → Trail
+with_series ms t τ = record { numbers = t.numbers ++ τ; sizes = t.sizes ++ map (size_of ms) τ }
+
+-- V1: the trail is the state's and then a series allowed from its pieces, which scores the answer
+pub record Continues (r : Bytes) (ms : List Pair) (s : State) (a : ℕ) (t : Trail) : Type 0 where
   pub series : List ℕ
-  pub is : t ≡ s.removals ++ series
+  pub is : t ≡ with_series ms s.trail series
   pub allows : Allows r ms s.next s.pieces series
   pub scores : a ≡ s.index - saved ms series
 

@@ -6,6 +6,6 @@ use Rattle.state.proofs.root.Goals as goal
 pub push-requires : goal.push-requires
 push-requires c = let e : length c.new-pieces.result.items < 32 = omega (arith, ap length c.new-pieces.ensures) in (omega arith, e)
 
-pub returns-clause-is : goal.returns-clause-is
+pub returns : goal.returns
 unfolding root
-returns-clause-is c = λ bytes ms e. rw (e, c.push.ensures.items, c.new-pieces.ensures, c.new.ensures, c.first_n.ensures)
+returns c = λ bytes ms e. rw (e, c.push.ensures.items, c.new-pieces.ensures, c.new.ensures, c.first_n.ensures)

@@ -30,11 +30,11 @@ pub returns-in_err-found : goal.returns-in_err-found
 returns-in_err-found c =
     let a = c.args in
     let p = err_from_is_err_and c.from_residual.result c.from_residual.ensures.1 in
-    rw (p.1, p.2) (told_halt a.molecule.now.bytes.now a.setting a.memo.now _ c.zero.auto.words _ c.in_err-found.ensures a.trail.now)
+    rw (p.1, p.2) (told_halt a.molecule.now.bytes.now a.molecule.now.accepted a.setting a.memo.now _ c.zero.auto.words _ c.in_err-found.ensures a.trail.now)
 
 pub returns : goal.returns
 returns c =
     let a = c.args in
     let w = c.in_ok-found.ensures in
-    rw (c.len.ensures.value, rw c.deref.ensures.0 at c.write.ensures)
-    (told_score a.molecule.now.bytes.now a.setting a.memo.now _ c.zero.auto.words c.in_ok-found.found w.memo w.is a.matches c.requires.1 a.trail.now)
+    rw (c.numbers.ensures, c.write.ensures)
+    (told_score a.molecule.now.bytes.now a.molecule.now.accepted a.setting a.memo.now _ c.zero.auto.words c.in_ok-found.found w.memo w.is a.matches c.requires.1 a.trail.now)

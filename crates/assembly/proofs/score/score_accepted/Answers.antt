@@ -15,10 +15,10 @@ returns-then-setting-gt1 c =
     let a = c.args in
     answers_early (memo_back a.molecule.now.bytes.now a.setting (room_of (loan a.trail.now a.parts.now a.pairs.now a.memo.now a.desk.now)) a.molecule.now.accepted c.if-setting-gt1.true) refl
 
-pub returns-then-trail-lt32 : goal.returns-then-trail-lt32
-returns-then-trail-lt32 c =
+pub returns-then-trail-lt64 : goal.returns-then-trail-lt64
+returns-then-trail-lt64 c =
     let a = c.args in
-    answers_early (trail_back a.molecule.now.bytes.now a.setting (room_of (loan a.trail.now a.parts.now a.pairs.now a.memo.now a.desk.now)) a.molecule.now.accepted c.if-setting-gt3.false c.if-setting-gt1.false c.if-trail-lt32.true) refl
+    answers_early (trail_back a.molecule.now.bytes.now a.setting (room_of (loan a.trail.now a.parts.now a.pairs.now a.memo.now a.desk.now)) a.molecule.now.accepted c.if-setting-gt3.false c.if-setting-gt1.false c.if-trail-lt64.true) refl
 
 pub returns-then-desk-lt4096 : goal.returns-then-desk-lt4096
 returns-then-desk-lt4096 c =
@@ -30,5 +30,5 @@ returns c =
     let a = c.args in
     let w = c.answer_and_clear.ensures in
     let lent = loan a.trail.now a.parts.now a.pairs.now a.memo.now a.desk.now in
-    let e : Admitted a.setting lent = record { bounds = c.if-setting-gt3.false; memo = c.if-setting-gt1.false; trail = c.if-trail-lt32.false; desk = c.if-desk-lt4096.false } in
+    let e : Admitted a.setting lent = record { bounds = c.if-setting-gt3.false; memo = c.if-setting-gt1.false; trail = c.if-trail-lt64.false; desk = c.if-desk-lt4096.false } in
     answers_by w.told.answer (leaves_cleared a.molecule.now.bytes.now a.molecule.now.accepted a.setting lent e _ w.told.ends w.cleared)

@@ -12,7 +12,7 @@ visit-requires c =
     let n = c.bonds-n.ensures in
     let s = c.root-s in
     record {
-      entered = root_entered M.bytes.now M.accepted s.result (s.ensures.is M.bytes.now (pairs M.bytes.now) (sym n));
+      entered = root_entered M.bytes.now M.accepted s.result (s.ensures M.bytes.now (pairs M.bytes.now) (sym n));
       low = omega (arith, n, few M.bytes.now M.accepted);
       cached = p.cached;
       stored = ([], p.stored);
@@ -25,4 +25,4 @@ returns c =
     let n = sym c.bonds-n.ensures in
     let s = c.root-s in
     let v = c.visit in
-    root_found M.bytes.now M.accepted s.result (s.ensures.is M.bytes.now (pairs M.bytes.now) n) a.searched.now.setting _ c.bonds-n.result n v.result v.new.memo (v.ensures.follows [] c.requires.stored)
+    root_found M.bytes.now M.accepted s.result (s.ensures M.bytes.now (pairs M.bytes.now) n) a.searched.now.setting _ c.bonds-n.result n v.result v.new.memo (v.ensures.follows [] c.requires.stored)
