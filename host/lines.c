@@ -153,8 +153,8 @@ static void hold(const struct table *table, int cleared, uint64_t lent)
             broken(table->name, i, i < zeros ? "not cleared" : "touched");
 }
 
-/* The trail after a score with k removals: two arrays of 32, in each k numbers that the call has written and then zeros. Bonds less one is index
- * plus the sum of (size less one). Later numbers are as they were filled. */
+/* The trail after a score with k removals: two arrays of 32, in each k numbers that the call has written and then zeros. Sizes are two at
+ * least, and bonds less one is index plus the sum of (size less one). Later numbers are as they were filled. */
 static void hold_scored(const uint32_t *trail, struct pazgelk_score reply, uint32_t bonds)
 {
     uint64_t sum = (uint64_t)reply.index + 1;
@@ -167,8 +167,11 @@ static void hold_scored(const uint32_t *trail, struct pazgelk_score reply, uint3
         if (trail[i] != (written ? 0 : (uint32_t)noise(i)))
             broken("trail", i, written ? "not 0" : "touched");
     }
-    for (size_t i = ARRAY; i < ARRAY + reply.length; i++)
-        sum += (uint64_t)trail[i] - 1;
+    for (size_t i = ARRAY; i < ARRAY + reply.length; i++) {
+        if (trail[i] < 2)
+            broken("trail", i, "no size");
+        sum += trail[i] - 1;
+    }
     if (sum != bonds)
         broken("trail", ARRAY, "not a size that fits the index");
 }

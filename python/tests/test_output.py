@@ -51,11 +51,6 @@ def test_style_is_kept(tmp_path: Path, delimiter: str, newline: str, mark: str, 
     assert written("csv", table, SCORED, CUT_OFF) == (mark + newline.join(said) + newline).encode(encoding)
 
 
-def test_details_show_each_removal_with_its_size() -> None:
-    assert answers.cells(SCORED, None, details=True)[-5:] == (1, 2, "0(3) 14(2)", "", "")
-    assert answers.cells(CUT_OFF, None, details=True)[-5:] == ("", "", "", 11, 100)
-
-
 def test_what_stands_above_the_header_is_kept(tmp_path: Path) -> None:
     table = read(tmp_path, "list.csv", b"sep=;\nMay;\nname;smiles\na;CC\n")
     assert written("csv", table, SCORED).decode().split("\n")[:2] == ["sep=;", "May;"]

@@ -2,7 +2,7 @@
 ghost use Rattle.std.specs.Prelude.{◌≤◌};
 
 // Match numbers, the sizes of their fragments, which are 32 at most, and how many there are of each. No two lists: a trail is copied for each
-// state, and with lists a score took 1.09 of the time.
+// state, and with lists a score takes 1.09 of the time.
 #[derive(Clone, Copy, Debug, PartialEq, Eq, Drop)]
 pub struct Trail {
     numbers: [u32; 32],
