@@ -144,6 +144,13 @@ static void broken(const char *name, size_t i, const char *how)
     exit(1);
 }
 
+/* Whether a call has turned back what it was asked, by a row up to last or by row 15, which comes directly after 3: then it has touched
+ * nothing that it was lent. */
+static int untouched(uint32_t number, uint32_t last)
+{
+    return (number != 0 && number <= last) || number == 15;
+}
+
 /* A table after a call: where it is cleared the words that were lent are 0; all others are as they were filled. */
 static void hold(const struct table *table, int cleared, uint64_t lent)
 {
@@ -204,7 +211,7 @@ static int answer_matches(char **words, int n)
     fill(&parts);
     fill(&pairs);
     struct pazgelk_reply reply = assembly_matches(record, (size_t)length, parts.words, (size_t)lent[0], pairs.words, (size_t)lent[1]);
-    int cleared = reply.number == 0 || reply.number > 6;
+    int cleared = !untouched(reply.number, 6);
     hold(&parts, cleared, lent[0]);
     hold(&pairs, cleared, lent[1]);
     if (reply.number == 0)
@@ -245,7 +252,7 @@ static int answer_score(char **words, int n)
     else
         hold_trail(trail);
     for (int i = 0; i < 4; i++)
-        hold(tables[i], reply.number == 0 || reply.number > 8, lent[i]);
+        hold(tables[i], !untouched(reply.number, 8), lent[i]);
     if (reply.number != 0) {
         put_refused(reply.number, reply.place);
         return 1;

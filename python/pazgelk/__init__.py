@@ -75,7 +75,7 @@ def label(compound: Compound | str | Chem.Mol, bonds: Iterable[int] | None = Non
     """The label of a connected set of a compound's bonds: all of them, or those with the given numbers.
 
     Bonds are numbered from 0, as RDKit numbers them; bonds to hydrogen have no part. Two sets, of one compound or of two, have equal
-    labels exactly when an isomorphism that keeps elements and kinds of bonds joins them. Raises ValueError for a compound that is
+    labels exactly when an isomorphism that keeps elements, isotopes and kinds of bonds joins them. Raises ValueError for a compound that is
     not searched, and for a set that is empty or not connected or has a bond that is not there.
 
     >>> label("CCO") == label("OCC"), label("CCCO", [0, 1]) == label("CCCO", [1, 2])

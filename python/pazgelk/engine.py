@@ -21,7 +21,7 @@ LIBRARY = "libpazgelk.so"
 MOST_REMOVALS = 32
 TRAIL_NUMBERS = 2 * MOST_REMOVALS
 DESK_WORDS = 4096
-LABEL_BYTES = 389
+LABEL_BYTES = 454
 WORD = 8
 
 
@@ -119,27 +119,27 @@ def library() -> ctypes.CDLL:
 
 
 def check(record: bytes) -> Reply:
-    """Whether the bytes are a record that is answered: number 0, or one of rows 1 to 6."""
+    """Whether the bytes are a record that is answered: number 0, or one of rows 1 to 6 and 15."""
     reply = library().assembly_check(record, len(record))
     return Reply(reply.number, reply.place)
 
 
 def label(record: bytes, bonds: int) -> bytes | Reply:
-    """The label of a connected set of the record's bonds (bit i is bond i), or one of rows 1 to 6 and 13."""
+    """The label of a connected set of the record's bonds (bit i is bond i), or one of rows 1 to 6, 13 and 15."""
     buffer = ctypes.create_string_buffer(LABEL_BYTES)
     reply = library().assembly_label(record, len(record), bonds, buffer, LABEL_BYTES)
     return Reply(reply.number, reply.place) if reply.number else buffer.raw[: reply.place]
 
 
 def matches(record: bytes, parts: int, pairs: int) -> Reply:
-    """How many matches the record has, with so many words of tables, or one of rows 1 to 6, 9 and 10."""
+    """How many matches the record has, with so many words of tables, or one of rows 1 to 6, 9, 10 and 15."""
     tables = [Table(parts), Table(pairs)]
     reply = library().assembly_matches(record, len(record), *_lent(*tables))
     return Reply(reply.number, reply.place)
 
 
 def score(record: bytes, *, bounds: int, memo: int, budget: int, lengths: Lengths) -> Answer:
-    """The score of the record, searched with tables of these lengths, or one of rows 1 to 12."""
+    """The score of the record, searched with tables of these lengths, or one of rows 1 to 12 and 15."""
     trail = (ctypes.c_uint32 * TRAIL_NUMBERS)()
     tables = [Table(words) for words in (lengths.parts, lengths.pairs, lengths.memo, DESK_WORDS)]
     reply = library().assembly_score(

@@ -81,6 +81,21 @@ def atom(number: int, symbol: str) -> str:
     return f"atom {number} ({symbol})"
 
 
+def atom_at_character(place: int) -> str:
+    """An atom of a SMILES that is not read, by the place of its bracket, counted from 1."""
+    return f"the atom at character {place}"
+
+
+def some_atom() -> str:
+    """An atom of a mol block that cannot be named."""
+    return "an atom"
+
+
+def no_mass_number(where: str, number: str, least: int, most: int) -> str:
+    """A mass number that is no class."""
+    return f"{where} has the mass number {number or '(blank)'}: write one from {least} to {most}, as 13 for carbon-13, or none for a natural atom"
+
+
 def no_smiles() -> str:
     """The SMILES is empty."""
     return "the SMILES is empty: fill it in"
@@ -221,12 +236,12 @@ def no_fragment() -> str:
 
 def note_of_hydrogen_isotopes(names: Sequence[str]) -> str:
     """Deuterium or tritium was left out."""
-    return f"{' and '.join(names)} left out as hydrogen"
+    return f"{' and '.join(names)} left out as hydrogen, which marks nothing"
 
 
 def note_of_isotopes(marks: Sequence[str]) -> str:
-    """Isotopes make no difference."""
-    return f"isotopes make no difference here: {shortened(marks)}"
+    """Isotopes are told apart."""
+    return f"isotopes are told apart: {shortened(marks)}"
 
 
 def note_of_radicals(atoms: Sequence[str]) -> str:

@@ -1,7 +1,8 @@
 """From a SMILES, a mol block or an RDKit molecule to the record that the engine is given, or to the reason why there is none.
 
-Hydrogens of any isotope are left out with their bonds. Stereo, charges, isotopes and map numbers are not seen. Atoms and bonds go
-into the record in RDKit's canonical order, so that one compound gives one record however it is written.
+Hydrogens of any isotope are left out with their bonds, so deuterium marks nothing. An atom's class is its mass number, or 1 where none
+is given. Stereo, charges and map numbers are not seen. Atoms and bonds go into the record in RDKit's canonical order, so that one
+compound gives one record however it is written.
 """
 
 from __future__ import annotations
@@ -11,7 +12,7 @@ from collections.abc import Sequence
 from dataclasses import dataclass
 from typing import TYPE_CHECKING, Any
 
-from . import messages, toolkit
+from . import isotopes, messages, toolkit
 from .model import MOST_BONDS, Result, Status
 
 if TYPE_CHECKING:
@@ -67,6 +68,9 @@ def read_smiles(text: str) -> Structure | Result:
         if not "!" <= character <= "~":
             told = messages.space_inside(place) if character == " " else messages.stray_character(place, character)
             return Result(Status.UNREADABLE, reason=told)
+    fault = isotopes.fault_in_smiles(text)
+    if fault:
+        return Result(Status.UNREADABLE, reason=fault)
     with toolkit.silent():
         molecule = _parse_smiles(text)
         if molecule is not None:
@@ -82,7 +86,8 @@ def read_mol_block(block: str) -> Structure | Result:
     with toolkit.silent():
         molecule = _parse_mol_block(plain)
         if molecule is not None:
-            return read_molecule(molecule)
+            fault = isotopes.fault_in_mol_block(plain, molecule)
+            return Result(Status.UNREADABLE, reason=fault) if fault else read_molecule(molecule)
     words = toolkit.words_of(lambda: _parse_mol_block(plain))
     return Result(Status.UNREADABLE, reason=messages.mol_block_not_read(words[-1] if words else ""))
 
@@ -98,6 +103,7 @@ def read_molecule(molecule: Chem.Mol) -> Structure | Result:
             graph = _graph(copy)
             _look_at_size(graph)
             _sanitize(copy)
+            _look_at_isotopes(copy, graph)
             note = _joined(note, _notes_of_atoms(copy, graph))
             _look_at_shape(graph)
             _look_at_bonds(copy, graph)
@@ -175,6 +181,13 @@ def _sanitize(molecule: Chem.RWMol) -> None:
         raise _TurnedBack(Status.UNREADABLE, messages.not_chemistry(str(error).strip().splitlines()[0])) from error
 
 
+def _look_at_isotopes(molecule: Chem.Mol, graph: _Graph) -> None:
+    """Every mass number is one that a class can be."""
+    fault = next(filter(None, (isotopes.fault_of_atom(molecule.GetAtomWithIdx(index)) for index in graph.atoms)), "")
+    if fault:
+        raise _TurnedBack(Status.UNREADABLE, fault, len(graph.bonds))
+
+
 def _chemical_fault(molecule: Chem.Mol, error: Any) -> str:
     """What RDKit found, with the atoms as we count them."""
     chem, cause = toolkit.chem(), error.cause
@@ -236,8 +249,8 @@ def _joined(*notes: str) -> str:
 def _notes_of_hydrogen(molecule: Chem.Mol) -> str:
     """Which hydrogens are left out that a reader might look for."""
     hydrogens = [atom for atom in molecule.GetAtoms() if atom.GetAtomicNum() == HYDROGEN]
-    isotopes = sorted({atom.GetIsotope() for atom in hydrogens} - {0, 1})
-    names = [HYDROGEN_ISOTOPES.get(isotope, f"{isotope}H") for isotope in isotopes]
+    masses = sorted({atom.GetIsotope() for atom in hydrogens} - {0, 1})
+    names = [HYDROGEN_ISOTOPES.get(mass, f"{mass}H") for mass in masses]
     loose = len(hydrogens) < molecule.GetNumAtoms() and any(
         all(neighbour.GetAtomicNum() == HYDROGEN for neighbour in atom.GetNeighbors()) for atom in hydrogens
     )
@@ -248,12 +261,12 @@ def _notes_of_hydrogen(molecule: Chem.Mol) -> str:
 
 
 def _notes_of_atoms(molecule: Chem.Mol, graph: _Graph) -> str:
-    """Isotopes, which make no difference, and radicals, which are often a slip."""
+    """Isotopes, which are told apart, and radicals, which are often a slip."""
     atoms = [molecule.GetAtomWithIdx(index) for index in graph.atoms]
-    isotopes = [f"{atom.GetIsotope()}{atom.GetSymbol()} at atom {atom.GetIdx() + 1}" for atom in atoms if atom.GetIsotope()]
+    marks = [f"{atom.GetIsotope()}{atom.GetSymbol()} at atom {atom.GetIdx() + 1}" for atom in atoms if atom.GetIsotope()]
     radicals = [_atom(atom) for atom in atoms if atom.GetNumRadicalElectrons()]
     return _joined(
-        messages.note_of_isotopes(isotopes) if isotopes else "",
+        messages.note_of_isotopes(marks) if marks else "",
         messages.note_of_radicals(radicals) if radicals else "",
     )
 
@@ -289,7 +302,7 @@ def _record(molecule: Chem.Mol, graph: _Graph) -> tuple[bytes, tuple[int, ...]]:
     """The record's bytes, and for each of its bonds the number in the molecule."""
     codes = _bond_codes()
     place = _canonical_places(molecule, graph)
-    elements = {place[index]: molecule.GetAtomWithIdx(index).GetAtomicNum() for index in graph.atoms}
+    atoms = [molecule.GetAtomWithIdx(index) for index in sorted(graph.atoms, key=place.__getitem__)]
     bonds = []
     for number in graph.bonds:
         bond = molecule.GetBondWithIdx(number)
@@ -297,8 +310,9 @@ def _record(molecule: Chem.Mol, graph: _Graph) -> tuple[bytes, tuple[int, ...]]:
         bonds.append((low, high, codes[bond.GetBondType()], number))
     bonds.sort()
     record = bytes(
-        [len(elements), len(bonds)]
-        + [elements[index] for index in range(len(elements))]
+        [len(atoms), len(bonds)]
+        + [atom.GetAtomicNum() for atom in atoms]
+        + [isotopes.class_of(atom) for atom in atoms]
         + [end for low, high, _, _ in bonds for end in (low, high)]
         + [code for _, _, code, _ in bonds]
     )
@@ -306,16 +320,17 @@ def _record(molecule: Chem.Mol, graph: _Graph) -> tuple[bytes, tuple[int, ...]]:
 
 
 def _canonical_places(molecule: Chem.Mol, graph: _Graph) -> dict[int, int]:
-    """Each atom's place in RDKit's canonical order of a molecule that has elements and bonds alone."""
+    """Each atom's place in RDKit's canonical order of a molecule that has elements, mass numbers and bonds alone."""
     chem = toolkit.chem()
     bare, index = chem.RWMol(), {}
     for number in graph.atoms:
         atom = chem.Atom(molecule.GetAtomWithIdx(number).GetAtomicNum())
+        atom.SetIsotope(molecule.GetAtomWithIdx(number).GetIsotope())
         atom.SetNoImplicit(True)
         index[number] = bare.AddAtom(atom)
     for number in graph.bonds:
         bond = molecule.GetBondWithIdx(number)
         bare.AddBond(index[bond.GetBeginAtomIdx()], index[bond.GetEndAtomIdx()], bond.GetBondType())
     bare.UpdatePropertyCache(False)
-    ranks = chem.CanonicalRankAtoms(bare, includeChirality=False, includeIsotopes=False)
+    ranks = chem.CanonicalRankAtoms(bare, includeChirality=False, includeIsotopes=True)
     return {number: ranks[index[number]] for number in graph.atoms}

@@ -30,6 +30,14 @@ def test_score() -> None:
         result.score = 0  # type: ignore[misc]
 
 
+def test_score_of_a_labelled_standard() -> None:
+    """A marked half no longer matches its like; two halves that are marked alike do."""
+    natural, half, whole = ("CC(=O)C(C)=O", "[13CH3][13C](=O)C(C)=O", "[13CH3][13C](=O)[13C]([13CH3])=O")
+    assert [pazgelk.score(smiles).score for smiles in (natural, half, whole)] == [3, 4, 3]
+    assert "13C at atom 1, 13C at atom 2" in pazgelk.score(half).note
+    assert pazgelk.score("[2H]C([2H])([2H])C(=O)C(C)=O").score == 3
+
+
 def test_one_bond_scores_0() -> None:
     assert pazgelk.score("CS").score == 0
     assert pazgelk.score("S").score is None
@@ -38,6 +46,7 @@ def test_one_bond_scores_0() -> None:
 def test_check() -> None:
     good, ring = pazgelk.check("CCO"), pazgelk.check("C1CC1")
     assert good.accepted and good.bonds == 2 and good.record[:2] == b"\x03\x02" and good.status is None
+    assert len(good.record) == 2 + 2 * 3 + 3 * 2
     assert not ring.accepted and ring.status is Status.RING and ring.reason
 
 
@@ -46,6 +55,9 @@ def test_label() -> None:
     assert pazgelk.label("CCO") == pazgelk.label("OCC") != pazgelk.label("COC")
     assert pazgelk.label("CCCCO", [0, 1]) == pazgelk.label("CCCCO", [2, 1]) != pazgelk.label("CCCCO", [2, 3])
     assert pazgelk.label("CCO", [0, 0]) == pazgelk.label("CC")
+    assert pazgelk.label("[13CH3]C") == pazgelk.label("C[13CH3]") == bytes.fromhex("0100" + "00060dffff" + "00" + "0006ffff")
+    assert pazgelk.label("[13CH3]CC", [1]) == pazgelk.label("CC") != pazgelk.label("[14CH3]C") != pazgelk.label("[13CH3]C")
+    assert pazgelk.label("[2H]CC") == pazgelk.label("CC")
     for bonds, words in (([], "connected"), ([0, 2], "connected"), ([4], "no bond 4"), ([-1], "no bond -1")):
         with pytest.raises(ValueError, match=words):
             pazgelk.label("CCCC", bonds)

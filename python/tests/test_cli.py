@@ -81,9 +81,9 @@ def on_terminal(*words: str, columns: int = 100) -> tuple[int, str]:
 def test_roast(capfd: Captured) -> None:
     status, out, error = run(capfd, "score", str(ROAST))
     rows = table(out)
-    assert status == 0 and len(rows) == 96
-    assert Counter(row["pz_status"] for row in rows) == {"scored": 66, "ring": 21, "one atom": 4, "several parts": 3, "too large": 2}
-    assert error == "96 structures: 66 scored, 21 rings, 3 several parts, 4 one atom, 2 too large, 0 cut off\n"
+    assert status == 0 and len(rows) == 98
+    assert Counter(row["pz_status"] for row in rows) == {"scored": 68, "ring": 21, "one atom": 4, "several parts": 3, "too large": 2}
+    assert error == "98 structures: 68 scored, 21 rings, 3 several parts, 4 one atom, 2 too large, 0 cut off\n"
     scores = {row["name"]: row["pz_score"] for row in rows}
     assert scores["methanethiol"] == scores["nitrogen"] == "0"
     assert scores["dimethyl sulfide"] == scores["dimethyl sulfide-d6"] == "1"
@@ -137,6 +137,37 @@ def test_every_format_gives_the_same_scores(tmp_path: Path, capfd: Captured) -> 
     for place in range(0, 20, 4):
         assert [row["pz_score"] for row in rows[place : place + 4]] == ["1", "8", "ring", "several parts"]
     assert rows[20]["pz_score"] == "1" and [row["pz_file"] for row in rows[::4]] == ["a.csv", "a.tsv", "a.smi", "a.sdf", "a.xlsx", "a.mol"]
+
+
+def test_every_format_reads_isotopes(tmp_path: Path, capfd: Captured) -> None:
+    """A labelled compound beside the natural one, one that no class tells, and one with deuterium alone, in each kind of file."""
+    from rdkit import Chem
+
+    smiles = ["CC(=O)C(C)=O", "[13CH3][13C](=O)C(C)=O", "[300CH3]C(=O)C(C)=O", "[2H]CC(=O)C(C)=O"]
+    (tmp_path / "a.csv").write_text("name,smiles\n" + "".join(f"x,{text}\n" for text in smiles))
+    (tmp_path / "a.tsv").write_text("name\tsmiles\n" + "".join(f"x\t{text}\n" for text in smiles))
+    (tmp_path / "a.smi").write_text("".join(f"{text} x\n" for text in smiles))
+    book = openpyxl.Workbook()
+    for row in [("name", "smiles"), *(("x", text) for text in smiles)]:
+        book.active.append(row)
+    book.save(tmp_path / "a.xlsx")
+    molecules = [Chem.MolFromSmiles(text) for text in smiles]
+    for name, blocks in (
+        ("v2000.sdf", [Chem.MolToMolBlock(molecule) for molecule in molecules]),
+        ("v3000.sdf", [Chem.MolToV3KMolBlock(molecule) for molecule in molecules]),
+    ):
+        (tmp_path / name).write_text("".join(f"{block}$$$$\n" for block in blocks))
+    (tmp_path / "a.mol").write_text(Chem.MolToMolBlock(molecules[1]))
+    lists = ["a.csv", "a.tsv", "a.smi", "a.xlsx", "v2000.sdf", "v3000.sdf"]
+    status, _, _ = run(capfd, "score", *lists, "a.mol", "-o", "all.csv")
+    rows = table((tmp_path / "all.csv").read_text())
+    assert status == 1 and len(rows) == 4 * len(lists) + 1
+    for place in range(0, 4 * len(lists), 4):
+        natural, marked, wrong, deuterium = rows[place : place + 4]
+        assert [row["pz_score"] for row in (natural, marked, wrong, deuterium)] == ["3", "4", "unreadable", "3"], natural["pz_file"]
+        assert "atom 1 (C) has the mass number 300: write one from 2 to 254" in wrong["pz_reason"]
+        assert "13C at atom 1, 13C at atom 2" in marked["pz_note"] and "deuterium" in deuterium["pz_note"]
+    assert rows[-1]["pz_score"] == "4"
 
 
 def test_workbook_to_workbook(tmp_path: Path, capfd: Captured) -> None:

@@ -10,12 +10,20 @@ from pazgelk import engine
 from pazgelk.engine import Answer, Lengths, Reply
 from pazgelk.model import NotReady, Removal
 
-CHAIN = bytes.fromhex("05040606060606000101020203030401010101")
-TRIANGLE = bytes.fromhex("040306060606000101020200010101")
+CHAIN = bytes.fromhex("050406060606060101010101000101020203030401010101")
+TRIANGLE = bytes.fromhex("04030606060601010101000101020200010101")
 
 
-def score(lengths: Lengths, *, bounds: int = 3, memo: int = 0, budget: int = 100) -> Answer:
-    return engine.score(CHAIN, bounds=bounds, memo=memo, budget=budget, lengths=lengths)
+def chain(*classes: int) -> bytes:
+    """The chain of four bonds with these classes."""
+    return CHAIN[:7] + bytes(classes) + CHAIN[12:]
+
+
+MARKED = chain(13, 1, 1, 1, 1)
+
+
+def score(lengths: Lengths, record: bytes = CHAIN, *, bounds: int = 3, memo: int = 0, budget: int = 100) -> Answer:
+    return engine.score(record, bounds=bounds, memo=memo, budget=budget, lengths=lengths)
 
 
 def test_check() -> None:
@@ -23,6 +31,23 @@ def test_check() -> None:
     assert engine.check(TRIANGLE) == Reply(6, 3)
     assert engine.check(b"") == Reply(1, 0)
     assert engine.check(b"\0\0") == Reply(2, 0)
+    assert engine.check(CHAIN[:7] + CHAIN[12:]) == Reply(1, 19)
+
+
+def test_classes() -> None:
+    """Row 15, the lowest atom of class 0 or 255, comes after row 3 and before row 4, from every call."""
+    for record, reply in (
+        (MARKED, Reply(0, 0)),
+        (chain(2, 254, 1, 1, 1), Reply(0, 0)),
+        (chain(1, 1, 0, 255, 1), Reply(15, 2)),
+        (chain(1, 1, 1, 1, 255), Reply(15, 4)),
+        (chain(0, 1, 1, 1, 1).replace(b"\6", b"\xff", 1), Reply(3, 0)),
+        (chain(1, 0, 1, 1, 1)[:-1] + b"\0", Reply(15, 1)),
+    ):
+        assert engine.check(record) == reply
+    wrong = chain(1, 1, 0, 255, 1)
+    assert engine.label(wrong, 0) == engine.matches(wrong, 0, 0) == Reply(15, 2)
+    assert score(Lengths(0, 0), wrong, bounds=9) == Answer(15, 2)
 
 
 def test_label() -> None:
@@ -30,16 +55,30 @@ def test_label() -> None:
     assert engine.label(CHAIN, 0b0011) == engine.label(CHAIN, 0b0110) == label
     assert engine.label(CHAIN, 0b0101) == Reply(13, 0)
     assert engine.label(TRIANGLE, 1) == Reply(6, 3)
+    assert engine.label(MARKED, 0b0011) == bytes.fromhex("000100060dffff00010006ffff0006ff")
+    assert engine.label(MARKED, 0b0110) == label
+
+
+def test_longest_label() -> None:
+    """Two atoms with 33 and 32 bonds, all 65 atoms marked: 454 bytes, which the buffer has."""
+    ends = [(0, 1)] + [(0, leaf) for leaf in range(2, 34)] + [(1, leaf) for leaf in range(34, 65)]
+    record = bytes([65, 64] + [6] * 65 + [13] * 65 + [end for bond in ends for end in bond] + [1] * 64)
+    found = engine.label(record, 2**64 - 1)
+    assert isinstance(found, bytes) and len(found) == engine.LABEL_BYTES == 454
 
 
 def test_matches() -> None:
     assert engine.matches(CHAIN, 72, 4) == Reply(0, 1)
     assert engine.matches(CHAIN, 71, 4) == Reply(9, 2)
     assert engine.matches(CHAIN, 72, 3) == Reply(10, 1)
+    assert engine.matches(MARKED, 72, 4) == Reply(0, 0)
+    assert engine.matches(chain(13, 1, 1, 1, 13), 72, 4) == Reply(0, 1)
+    assert engine.matches(chain(13, 1, 1, 1, 14), 72, 4) == Reply(0, 0)
 
 
 def test_score() -> None:
     assert score(Lengths(72, 4)) == Answer(0, index=2, matches=1, states=2, removals=(Removal(0, 2),))
+    assert score(Lengths(72, 4), MARKED) == Answer(0, index=3, matches=0, states=1)
     assert score(Lengths(71, 4)) == Answer(9, 2)
     assert score(Lengths(72, 3)) == Answer(10, 1)
     assert score(Lengths(0, 0)) == Answer(9, 1)

@@ -188,6 +188,6 @@ def test_settings_in_words() -> None:
 
 
 def test_row_of_our_own_fault() -> None:
-    result = search.search(bytes.fromhex("040306060606000101020200010101"), Settings())
+    result = search.search(bytes.fromhex("04030606060601010101000101020200010101"), Settings())
     assert result.status is Status.UNREADABLE and result.row == 6
     assert "a fault of Pazgelk" in result.reason

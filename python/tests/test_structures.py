@@ -56,6 +56,17 @@ def turned_back(found: Structure | Result) -> Result:
         ("C[Fe]<-O", Status.UNREADABLE, 2, "is dative"),
         ("C$C", Status.UNREADABLE, 1, "is quadruple"),
         ("C:C", Status.UNREADABLE, 1, "is aromatic"),
+        ("C[300CH3]", Status.UNREADABLE, 1, "atom 2 (C) has the mass number 300: write one from 2 to 254"),
+        ("C[255CH3]", Status.UNREADABLE, 1, "atom 2 (C) has the mass number 255"),
+        ("C[1CH3]", Status.UNREADABLE, 1, "atom 2 (C) has the mass number 1:"),
+        ("[1OH]C[999CH3]", Status.UNREADABLE, 2, "atom 1 (O) has the mass number 1:"),
+        ("[300CH4]", Status.UNREADABLE, 0, "mass number 300"),
+        ("[300CH2]1CC1", Status.UNREADABLE, 3, "mass number 300"),
+        ("C[65536CH3]", Status.UNREADABLE, None, "the atom at character 2 has the mass number 65536"),
+        ("C[65549CH3]", Status.UNREADABLE, None, "the atom at character 2 has the mass number 65549"),
+        ("C[99999999999CH3]", Status.UNREADABLE, None, "the mass number 99999999999"),
+        ("[-13CH3]C", Status.UNREADABLE, None, "cannot be read as a SMILES"),
+        ("[13CH5]C", Status.UNREADABLE, None, "atom 1 (C) has a valence of 6"),
         ("C[H]C", Status.UNREADABLE, None, "atom 2 (H) is a hydrogen with 2 bonds"),
         ("[H]1[BH2][H][BH2]1", Status.UNREADABLE, None, "hydrogen with 2 bonds"),
         ("[H][H]", Status.HYDROGEN_ONLY, 0, "nothing but hydrogen"),
@@ -63,6 +74,8 @@ def turned_back(found: Structure | Result) -> Result:
         ("[H+]", Status.HYDROGEN_ONLY, 0, "nothing but hydrogen"),
         ("O", Status.ONE_ATOM, 0, "one atom"),
         ("[2H]O[2H]", Status.ONE_ATOM, 0, "one atom"),
+        ("[2H]Cl", Status.ONE_ATOM, 0, "one atom"),
+        ("[13CH4]", Status.ONE_ATOM, 0, "one atom"),
         ("[Ar]", Status.ONE_ATOM, 0, "one atom"),
         ("CC(=O)[O-].[Na+]", Status.SEVERAL_PARTS, 3, "2 parts"),
         ("CCC(C)C=O.CC(C)CC=O", Status.SEVERAL_PARTS, 10, "2 parts"),
@@ -98,6 +111,10 @@ def test_turned_back(smiles: str, status: Status, bonds: int | None, words: str)
         ("[2H]C([2H])([2H])SC([2H])([2H])[2H]", 2, "deuterium left out as hydrogen"),
         ("[3H]CC", 1, "tritium left out as hydrogen"),
         ("[1H]CC", 1, ""),
+        ("[300H]CC", 1, "300H left out as hydrogen"),
+        ("[2H][13CH2]C", 1, "deuterium left out as hydrogen, which marks nothing; isotopes are told apart: 13C at atom 2"),
+        ("[15NH3+]CC([O-])=O", 4, "15N at atom 1"),
+        ("[0CH3]C", 1, ""),
         ("[13CH3][13C](=O)O", 3, "13C at atom 1, 13C at atom 2"),
         ("C[CH2]", 1, "radical at atom 2 (C)"),
         ("[O][O]", 1, "radical at atom 1 (O), atom 2 (O)"),
@@ -119,7 +136,11 @@ def test_read(smiles: str, bonds: int, note: str) -> None:
         ("CC(C)C[C@H](N)C(=O)O", "CC(C)CC([NH3+])C(=O)[O-]"),
         (r"CCCCCC/C=C/C=O", "CCCCCCC=CC=O"),
         ("CC(C)=CCC/C(C)=C/CO", r"CC(C)=CCC/C(C)=C\CO"),
-        ("CC(=O)O", "[13CH3][13C](=O)[OH:3]"),
+        ("CC(=O)O", "CC(=O)[OH:3]"),
+        ("[13CH3]CO", "OC[13CH3]"),
+        ("[13CH3]CO", "[2H]OC([2H])[13C]([2H])([2H])[2H]"),
+        ("[13CH3]C([15NH3+])C([O-])=O", "OC(=O)[C@H]([15NH2])[13CH3]"),
+        ("[0CH3]CO", "CCO"),
         ("CN(=O)=O", "C[N+](=O)[O-]"),
     ],
 )
@@ -127,15 +148,39 @@ def test_one_compound_one_record(one: str, other: str) -> None:
     assert record(one) == record(other)
 
 
-def test_writings_of_a_peptide() -> None:
+@pytest.mark.parametrize("marked", [{}, {1: 13, 2: 13, 8: 15}, {number: 13 + number % 2 for number in range(20)}])
+def test_writings_of_a_peptide(marked: dict[int, int]) -> None:
     molecule = Chem.MolFromSmiles(PEPTIDE)
+    for number, mass in marked.items():
+        molecule.GetAtomWithIdx(number).SetIsotope(mass)
     writings = {Chem.MolToSmiles(molecule, doRandom=True, canonical=False) for _ in range(60)}
     assert len(writings) > 40
-    assert len({record(writing) for writing in writings} | {record(PEPTIDE)}) == 1
+    assert len({record(writing) for writing in writings} | {record(Chem.MolToSmiles(molecule))}) == 1
+
+
+def test_classes() -> None:
+    """The class bytes stand behind the element codes, in the same order; without an isotope each is 1."""
+
+    def atoms(smiles: str) -> list[tuple[int, int]]:
+        found = record(smiles)
+        count = found[0]
+        assert len(found) == 2 + 2 * count + 3 * found[1] and engine.check(found) == (0, 0)
+        return sorted(zip(found[2 : 2 + count], found[2 + count : 2 + 2 * count]))
+
+    assert atoms("CCO") == [(6, 1), (6, 1), (8, 1)]
+    assert atoms("C[13CH2]O") == [(6, 1), (6, 13), (8, 1)]
+    assert atoms("[12CH3][254CH2][18OH]") == [(6, 12), (6, 254), (8, 18)]
+    assert atoms("[2CH3]C") == [(6, 1), (6, 2)]
+
+
+def test_a_natural_record_is_the_one_without_isotopes() -> None:
+    """Marks aside, a marked compound has the atoms and bonds of the natural one."""
+    plain, marked = record("CC(=O)O"), record("[13CH3][13C](=O)[18OH]")
+    assert plain != marked and sorted(plain[2:6]) == sorted(marked[2:6]) and len(plain) == len(marked)
 
 
 def test_different_compounds_have_different_records() -> None:
-    smiles = ["CCO", "CCS", "COC", "CC=O", "C=CO", "CCN", "C#CO", "CC(C)O", "CCCO"]
+    smiles = ["CCO", "CCS", "COC", "CC=O", "C=CO", "CCN", "C#CO", "CC(C)O", "CCCO", "[13CH3]CO", "[14CH3]CO", "C[13CH2]O", "CC[18OH]"]
     assert len({record(text) for text in smiles}) == len(smiles)
 
 
@@ -166,10 +211,15 @@ def test_rdkit_is_silent(capfd: pytest.CaptureFixture[str]) -> None:
     assert capfd.readouterr() == ("", "")
 
 
-def block(atoms: list[str], bonds: list[tuple[int, int, int]], *properties: str, title: str = "title") -> str:
-    """A mol block of version V2000."""
+def block(
+    atoms: list[str], bonds: list[tuple[int, int, int]], *properties: str, title: str = "title", offsets: dict[int, int] = {}
+) -> str:
+    """A mol block of version V2000. Offsets are the mass differences of its atoms, by their numbers."""
     lines = [title, "  drawn", "", f"{len(atoms):3}{len(bonds):3}  0  0  0  0  0  0  0  0999 V2000"]
-    lines += [f"{0:10.4f}{0:10.4f}{0:10.4f} {symbol:<3} 0  0  0  0  0  0  0  0  0  0  0  0" for symbol in atoms]
+    lines += [
+        f"{0:10.4f}{0:10.4f}{0:10.4f} {symbol:<3}{offsets.get(number, 0):2}  0  0  0  0  0  0  0  0  0  0  0"
+        for number, symbol in enumerate(atoms, 1)
+    ]
     lines += [f"{first:3}{second:3}{kind:3}  0" for first, second, kind in bonds]
     return "\n".join([*lines, *properties, "M  END", ""])
 
@@ -226,4 +276,65 @@ def test_mol_blocks(text: str) -> None:
 def test_mol_blocks_turned_back(text: str, status: Status, words: str) -> None:
     found = turned_back(read_mol_block(text))
     assert found.status is status
+    assert words in found.reason
+
+
+def v3000(mass: str) -> str:
+    """A mol block of version V3000 of a chain of three carbons, the first with this mass number."""
+    return Chem.MolToV3KMolBlock(Chem.MolFromSmiles("[13CH3]CC")).replace("MASS=13", f"MASS={mass}")
+
+
+@pytest.mark.parametrize(
+    ("text", "smiles"),
+    [
+        (block(*CHAIN, "M  ISO  1   1  13"), "[13CH3]CC"),
+        (block(*CHAIN, "M  ISO  2   1  13   2 254"), "[13CH3][254CH2]C"),
+        (block(*CHAIN, "M  ISO  1   1  13", "M  ISO  1   3  14"), "[13CH3]C[14CH3]"),
+        (block(*CHAIN, "M  ISO  1   1  13").replace("\n", "\r\n"), "[13CH3]CC"),
+        (block(*CHAIN, "M  ISO  1   1  13   2 -13"), "[13CH3]CC"),
+        (block(*CHAIN, "M  ISO  1   1   0"), "CCC"),
+        (block(*CHAIN, title="M  ISO, MASS=x"), "CCC"),
+        (block(*CHAIN, offsets={1: 1}), "[13CH3]CC"),
+        (block(*CHAIN, offsets={1: -1}), "[11CH3]CC"),
+        (block(*CHAIN, "M  ISO  1   1  14", offsets={1: 1}), "[14CH3]CC"),
+        (block(["C", "C", "C", "H"], [(1, 2, 1), (2, 3, 1), (3, 4, 1)], "M  ISO  2   1  13   4   2"), "[13CH3]CC"),
+        (block(["C", "C", "C", "D"], [(1, 2, 1), (2, 3, 1), (3, 4, 1)], "M  ISO  1   4   3"), "CCC"),
+        (v3000("13"), "[13CH3]CC"),
+        (v3000("13.0"), "[13CH3]CC"),
+        (v3000("254"), "[254CH3]CC"),
+        (v3000("0"), "CCC"),
+        (v3000("-\nM  V30 MASS=14").replace("MASS=-\n", "-\n"), "[14CH3]CC"),
+    ],
+)
+def test_isotopes_of_mol_blocks(text: str, smiles: str) -> None:
+    found = read_mol_block(text)
+    assert isinstance(found, Structure), found
+    assert found.record == record(smiles)
+
+
+@pytest.mark.parametrize(
+    ("text", "words"),
+    [
+        (block(*CHAIN, "M  ISO  1   2 -13"), "atom 2 (C) has the mass number -13: write one from 2 to 254"),
+        (block(*CHAIN, "M  ISO  2   1  13   3  -1"), "atom 3 (C) has the mass number -1:"),
+        (block(*CHAIN, "M  ISO  1   2    "), "atom 2 (C) has the mass number (blank)"),
+        (block(*CHAIN, "M  ISO  1   2   1"), "atom 2 (C) has the mass number 1:"),
+        (block(*CHAIN, "M  ISO  1   2 255"), "atom 2 (C) has the mass number 255:"),
+        (block(*CHAIN, "M  ISO  1   2 999"), "atom 2 (C) has the mass number 999:"),
+        (block(*CHAIN, "M  ISO  1   9  13"), "cannot be read as a mol block"),
+        (block(*CHAIN, "M  ISO  1   1  xx"), "cannot be read as a mol block"),
+        (block(*CHAIN, "M  ISO  2   1  13"), "cannot be read as a mol block"),
+        (v3000("1"), "atom 1 (C) has the mass number 1:"),
+        (v3000("255"), "atom 1 (C) has the mass number 255:"),
+        (v3000("65549"), "an atom has the mass number 65549:"),
+        (v3000("13.9"), "an atom has the mass number 13.9:"),
+        (v3000("1e9"), "cannot be read as a mol block: Bad value for MASS"),
+        (v3000(""), "an atom has the mass number (blank)"),
+        (v3000("-13"), "cannot be read as a mol block: Bad value for MASS"),
+        (v3000("-\nM  V30 MASS=65549").replace("MASS=-\n", "-\n"), "an atom has the mass number 65549:"),
+    ],
+)
+def test_mass_numbers_of_mol_blocks_that_are_none(text: str, words: str) -> None:
+    found = turned_back(read_mol_block(text))
+    assert found.status is Status.UNREADABLE
     assert words in found.reason

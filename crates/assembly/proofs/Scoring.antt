@@ -1,5 +1,5 @@
 -- score's answer, row by row, what is lent to it afterwards, and demand 3. Assumes nothing.
-use Rattle.std.proofs.Common.{◌≡◌, Result, Ok, Err, refl, sym, ap, ◌∙◌, Bool, true, false, ◌||◌, ⊎_elim, List, [], ℕ, ◌*◌, ◌≤◌, ◌<◌, arith, length, replicate, ltb, lt-ltb, le-ltb, le-leb}
+use Rattle.std.proofs.Common.{◌≡◌, ◌⊎◌, Result, inl, inr, Ok, Err, refl, sym, ap, ◌∙◌, Bool, true, false, ◌||◌, ⊎_elim, List, [], ℕ, ◌*◌, ◌≤◌, ◌<◌, arith, length, replicate, ltb, lt-ltb, le-ltb, le-leb}
 use Rattle.std.proofs.Math.ListN.{length-replicate}
 use borrow.Author.Tests.{lt-leb}
 use Rattle.bitset.proofs.Bools.{or_left, or_right}
@@ -7,8 +7,7 @@ use Rattle.molecule.specs.Lists.{Bytes}
 use Rattle.molecule.specs.Check.{Answer, accepted, refused, row, check}
 use Rattle.molecule.specs.Verdict.{number_of, place_of}
 use Rattle.molecule.specs.declared.Fault.{Fault}
-use Rattle.molecule.specs.declared.Fault.TheVariants as fault
-use Rattle.molecule.proofs.RowLaws.{row_hit, row_pass}
+use Rattle.molecule.proofs.RowLaws.{row_hit, row_pass, fault_row}
 use Rattle.molecule.proofs.Lists.{zeros_at}
 use Rattle.matches.specs.Table.{match_table, pairs}
 use Rattle.matches.specs.Rows.{parts_room, table_answer}
@@ -23,7 +22,7 @@ use Rattle.search.specs.Memo.{Entry}
 use Rattle.search.specs.Trail.{Trail, written, read}
 use Rattle.search.proofs.Written.{read_written}
 use Rattle.search.specs.Search as definition
-use Rattle.search.specs.Answer.{ScoreAnswer, scored, turned_back, entry_answer, searched, score_answer, trail_after, table_after}
+use Rattle.search.specs.Answer.{ScoreAnswer, scored, turned_back, entry_answer, searched, score_answer, trail_after, is_late, table_after}
 use Rattle.search.specs.Answer.{Finished}
 use Rattle.search.proofs.Score as score
 use Rattle.assembly.specs.declared.answer.Score.{Score}
@@ -43,38 +42,37 @@ use Rattle.assembly.specs.Demand.{Demand3}
 use Rattle.desk.proofs.Caching.{cached_none}
 use Rattle.memoize.proofs.Entries.{stored_none}
 
--- ---- rows 1 to 8
+-- ---- rows 1 to 8 and 15
 
--- rows 1 to 6 have numbers below 9
-fault_early : (f : Fault) → number_of f < 9
-fault_early (fault.Length l) = omega arith
-fault_early fault.Counts = omega arith
-fault_early (fault.Element v) = omega arith
-fault_early (fault.Code i) = omega arith
-fault_early (fault.Ends i) = omega arith
-fault_early (fault.Unreached v) = omega arith
+-- check's rows are not late
+fault_early : (f : Fault) → is_late (number_of f) ≡ false
+fault_early f = go (number_of f) (fault_row f)
+  where
+    go : (k : ℕ) → ((1 ≤ k) × (k ≤ 6)) ⊎ (k ≡ 15) → is_late k ≡ false
+    go k (inl h) = rw (lt-leb 9 k (omega (arith, h.1)))
+    go k (inr e) = rw e
 
--- what is turned back on rows 1 to 8: the answer, and what is lent as it was
+-- what is turned back on rows 1 to 8 and 15: the answer, and what is lent as it was
 pub record Early (a : ScoreAnswer) (k p : ℕ) : Type 0 where
   pub answer : turned_back k p ≡ a
   pub leaves : (lent : Loan) → Leaves a lent lent
 
-early_back : (k p : ℕ) → k < 9 → Early (turned_back k p) k p
+early_back : (k p : ℕ) → is_late k ≡ false → Early (turned_back k p) k p
 unfolding trail_after table_after
 early_back k p h = record { answer = refl; leaves = λ lent. record { trail = refl; parts = same lent.parts; pairs = same lent.pairs; memo = same lent.memo; desk = same lent.desk } }
   where
     same : (words : List ℕ) → words ≡ table_after (turned_back k p) words
-    same words = rw (lt-leb 9 k h, table_after)
+    same words = rw (h, table_after)
 
 module _ (r : Bytes) (setting : Setting) (room : Room) where
   refused_back : (k p : ℕ) → entry_answer r setting room ≡ refused k p → turned_back k p ≡ score_answer r setting room
   unfolding score_answer
   refused_back k p e = rw (e, score_answer)
 
-  early : (k p : ℕ) → k < 9 → entry_answer r setting room ≡ refused k p → Early (score_answer r setting room) k p
+  early : (k p : ℕ) → is_late k ≡ false → entry_answer r setting room ≡ refused k p → Early (score_answer r setting room) k p
   early k p h e = rw (← refused_back k p e) (early_back k p h)
 
-  -- rows 1 to 6
+  -- check's rows
   pub record_back : (f : Fault) → check r ≡ refused (number_of f) (place_of f) → Early (score_answer r setting room) (number_of f) (place_of f)
   unfolding entry_answer
   record_back f e = let w : entry_answer r setting room ≡ refused (number_of f) (place_of f) = rw (e, entry_answer) in early (number_of f) (place_of f) (fault_early f) w
@@ -86,7 +84,7 @@ module _ (r : Bytes) (setting : Setting) (room : Room) where
     seven b e = rw (ok, e, entry_answer)
 
     row_seven : (ltb 3 setting.bounds || ltb 1 setting.memo) ≡ true → Early (score_answer r setting room) 7 0
-    row_seven e = early 7 0 (omega arith) (seven true e ∙ row_hit 7 0 true (row 8 0 (ltb room.trail 64 || ltb room.desk 4096) accepted) refl)
+    row_seven e = early 7 0 refl (seven true e ∙ row_hit 7 0 true (row 8 0 (ltb room.trail 64 || ltb room.desk 4096) accepted) refl)
 
     -- row 7
     pub bounds_back : 3 < setting.bounds → Early (score_answer r setting room) 7 0
@@ -103,7 +101,7 @@ module _ (r : Bytes) (setting : Setting) (room : Room) where
       eight b e = rw (← e) (seven false not_seven ∙ row_pass 7 0 false (row 8 0 (ltb room.trail 64 || ltb room.desk 4096) accepted) refl)
 
       row_eight : (ltb room.trail 64 || ltb room.desk 4096) ≡ true → Early (score_answer r setting room) 8 0
-      row_eight e = early 8 0 (omega arith) (eight true e ∙ row_hit 8 0 true accepted refl)
+      row_eight e = early 8 0 refl (eight true e ∙ row_hit 8 0 true accepted refl)
 
       -- row 8
       pub trail_back : room.trail < 64 → Early (score_answer r setting room) 8 0
@@ -112,7 +110,7 @@ module _ (r : Bytes) (setting : Setting) (room : Room) where
       pub desk_back : room.desk < 4096 → Early (score_answer r setting room) 8 0
       desk_back h = row_eight (or_right (ltb room.trail 64) (ltb room.desk 4096) (lt-ltb room.desk 4096 h))
 
-      -- none of rows 1 to 8
+      -- none of these rows
       pub entry_accepts : 64 ≤ room.trail → 4096 ≤ room.desk → entry_answer r setting room ≡ accepted
       entry_accepts h g = eight false (rw (le-ltb room.trail 64 h, le-ltb room.desk 4096 g)) ∙ row_pass 8 0 false accepted refl
 
@@ -129,31 +127,34 @@ module _ (r : Bytes) (setting : Setting) (room : Room) (entry : entry_answer r s
   unfolding score_answer
   table_built e = rw (entry, e, score_answer)
 
-  late : (a : ScoreAnswer) → ((k p : ℕ) → a ≡ turned_back k p → 9 ≤ k) → (words : List ℕ) → table_after a words ≡ replicate (length words) 0
+  abbrev Late : ℕ → Type 0
+  Late k = (9 ≤ k) × (k ≤ 12)
+
+  late : (a : ScoreAnswer) → ((k p : ℕ) → a ≡ turned_back k p → Late k) → (words : List ℕ) → table_after a words ≡ replicate (length words) 0
   unfolding table_after
   late (scored index matches states trail) h words = refl
-  late (turned_back k p) h words = rw (le-leb 9 k (h k p refl), table_after)
+  late (turned_back k p) h words = rw (le-leb 9 k (h k p refl).0, le-leb k 12 (h k p refl).1, table_after)
 
-  finished_late : (a : ScoreAnswer) → Finished setting a → (k p : ℕ) → a ≡ turned_back k p → 9 ≤ k
+  finished_late : (a : ScoreAnswer) → Finished setting a → (k p : ℕ) → a ≡ turned_back k p → Late k
   finished_late (scored index matches states trail) f k p e = let z : ◌≡◌ {A = ℕ} 0 1 = cc in absurd (omega arith)
   finished_late (turned_back j q) f k p e =
       let g : j ≡ k = cc in
-      ⊎_elim (λ (w : (j ≡ 11) × (q ≡ setting.budget)). omega (arith, w.0)) (λ (w : (j ≡ 12) × (setting.memo ≡ 1) × (q ≤ setting.budget)). omega (arith, w.0)) f
+      ⊎_elim (λ (w : (j ≡ 11) × (q ≡ setting.budget)). (omega (arith, w.0), omega (arith, w.0))) (λ (w : (j ≡ 12) × (setting.memo ≡ 1) × (q ≤ setting.budget)). (omega (arith, w.0), omega (arith, w.0))) f
 
-  back_late : (k p : ℕ) → score_answer r setting room ≡ turned_back k p → 9 ≤ k
+  back_late : (k p : ℕ) → score_answer r setting room ≡ turned_back k p → Late k
   back_late k p e = go (table_answer (match_table r) room.p room.pairs) refl
     where
-      go : (o : Answer) → table_answer (match_table r) room.p room.pairs ≡ o → 9 ≤ k
+      go : (o : Answer) → table_answer (match_table r) room.p room.pairs ≡ o → Late k
       go accepted q = finished_late (score_answer r setting room) (score.score_ends r setting room entry q) k p e
       go (refused j i) q =
           let f : turned_back j i ≡ turned_back k p = sym (table_back j i q) ∙ e in
           let g : j ≡ k = cc in
-          ⊎_elim (λ (w : j ≡ 9). omega arith) (λ (w : j ≡ 10). omega arith) (table_refused (match_table r) room.p room.pairs j i q)
+          ⊎_elim (λ (w : j ≡ 9). (omega arith, omega arith)) (λ (w : j ≡ 10). (omega arith, omega arith)) (table_refused (match_table r) room.p room.pairs j i q)
 
   zeros_after : (words now : List ℕ) → now ≡ replicate (length words) 0 → now ≡ table_after (score_answer r setting room) words
   zeros_after words now e = e ∙ sym (late (score_answer r setting room) back_late words)
 
--- none of rows 1 to 8 applies
+-- none of check's rows, 7 and 8 applies
 module _ (r : Bytes) (ok : check r ≡ accepted) (setting : Setting) (lent : Loan) (w : Admitted setting lent) where
   entry : entry_answer r setting (room_of lent) ≡ accepted
   entry = entry_accepts r setting (room_of lent) ok w.bounds w.memo w.trail w.desk
@@ -231,17 +232,9 @@ module _ (r : Bytes) (ok : check r ≡ accepted) (setting : Setting) (memo : Lis
 
 -- ---- for the crates above
 
-fault_some : (f : Fault) → 0 < number_of f
-fault_some (fault.Length l) = omega arith
-fault_some fault.Counts = omega arith
-fault_some (fault.Element v) = omega arith
-fault_some (fault.Code i) = omega arith
-fault_some (fault.Ends i) = omega arith
-fault_some (fault.Unreached v) = omega arith
-
 -- every refusal has a number over 0
 pub refusal_some : (f : ScoreRefusal) → 0 < refusal_number f
-refusal_some (says.Record f) = fault_some f
+refusal_some (says.Record f) = ⊎_elim (λ (h : (1 ≤ number_of f) × (number_of f ≤ 6)). omega (arith, h.0)) (λ (e : number_of f ≡ 15). omega arith) (fault_row f)
 refusal_some says.Setting = omega arith
 refusal_some says.Lent = omega arith
 refusal_some (says.Full (full.Parts k)) = omega arith
@@ -283,6 +276,6 @@ answers_by {r} {setting} {lent} {now} {x} e l = record {
   demand3 = λ s f. demanded r setting (room_of lent) s.index s.matches s.states (read s.length now.trail) (sym e ∙ ap (λ (y : Result Score ScoreRefusal). answer_of y now.trail) f);
 }
 
--- and of a record that rows 1 to 8 turn back
+-- and of a record that rows 1 to 8 and 15 turn back
 pub answers_early : {r : Bytes} {setting : Setting} {lent : Loan} {x : Result Score ScoreRefusal} {k p : ℕ} → Early (answer_to r setting lent) k p → answer_of x lent.trail ≡ turned_back k p → Answers r setting lent lent x
 answers_early {lent = lent} w f = answers_by (f ∙ w.answer) (w.leaves lent)

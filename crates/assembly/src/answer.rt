@@ -14,7 +14,7 @@ pub struct Score {
     pub length: u32,
 }
 
-// Why a record is not scored: rows 1 to 6 of document 01, the record; 7, the setting; 8, the trail or the desk, which is too short; 9 and 10, a table;
+// Why a record is not scored: check's rows, the record; 7, the setting; 8, the trail or the desk, which is too short; 9 and 10, a table;
 // 11 and 12, what ends the search early.
 #[derive(Clone, Copy, Debug, PartialEq, Eq)]
 pub enum ScoreRefusal {

@@ -9,7 +9,7 @@ use molecule::Molecule;
 use search::Setting;
 use tabulate::build;
 
-// Rows 9 to 12, where none of rows 1 to 8 applies. What is lent stays five slices, here and below: a struct that holds them would owe in each contract
+// Rows 9 to 12, where none of check's rows, 7 and 8 applies. What is lent stays five slices, here and below: a struct that holds them would owe in each contract
 // a clause for each, that it is the same loan.
 fn answer(
     molecule: &Molecule,

@@ -1,5 +1,5 @@
 -- Sets by their members: what each operation, subset and test says of a member. Assumes nothing.
-use mathlib.Core.Path.{◌≡◌, refl, sym, ap, ◌∙◌}
+use mathlib.Core.Path.{◌≡◌, refl, sym, ap, ap₂, ◌∙◌}
 use mathlib.Core.Logic.{◌⊎◌, inl, inr, ◌≢◌, ⊎_elim}
 use mathlib.Core.Bool.{Bool, true, false, true≢false}
 use mathlib.Core.List.Memᴰ
@@ -70,6 +70,13 @@ pub bit_members : (s i : ℕ) → bit s i ≡ 1 → Memᴰ i (members s)
 bit_members s i h = Memᴰ.cast (sym (zero-add i)) (bit_mem i 0 s h)
 
 -- ---- the set of the numbers that pass a test
+
+-- tests that agree have one set
+pub set_of_same : (p q : ℕ → Bool) (n : ℕ) → ((i : ℕ) → i < n → p i ≡ q i) → set_of p n ≡ set_of q n
+unfolding set_of
+set_of_same p q zero h = refl
+set_of_same p q (suc n) h =
+    ap₂ (λ (b : Bool) (s : ℕ). elim b [ true ↦ 2 ^ n + s | false ↦ s ]) (h n (omega arith)) (set_of_same p q n (λ i l. h i (omega arith)))
 
 module _ (p : ℕ → Bool) where
   pub set_of_none : set_of p 0 ≡ 0

@@ -58,18 +58,18 @@ module _ (r : Bytes) (s : ℕ) (buffer : Bytes) where
   module _ (ok : check r ≡ accepted) where
     pub set_row : bad_set r s ≡ true → label_verdict r s (length buffer) ≡ refused 13 0
     unfolding label_verdict
-    set_row b = rw (ok, label_verdict) (row_hit 13 0 (bad_set r s) (row 14 0 (ltb (length buffer) 389) accepted) b)
+    set_row b = rw (ok, label_verdict) (row_hit 13 0 (bad_set r s) (row 14 0 (ltb (length buffer) 454) accepted) b)
 
-    past : bad_set r s ≡ false → row 13 0 (bad_set r s) (row 14 0 (ltb (length buffer) 389) accepted) ≡ row 14 0 (ltb (length buffer) 389) accepted
-    past b = row_pass 13 0 (bad_set r s) (row 14 0 (ltb (length buffer) 389) accepted) b
+    past : bad_set r s ≡ false → row 13 0 (bad_set r s) (row 14 0 (ltb (length buffer) 454) accepted) ≡ row 14 0 (ltb (length buffer) 454) accepted
+    past b = row_pass 13 0 (bad_set r s) (row 14 0 (ltb (length buffer) 454) accepted) b
 
-    pub buffer_row : bad_set r s ≡ false → length buffer < 389 → label_verdict r s (length buffer) ≡ refused 14 0
+    pub buffer_row : bad_set r s ≡ false → length buffer < 454 → label_verdict r s (length buffer) ≡ refused 14 0
     unfolding label_verdict
-    buffer_row b h = rw (ok, label_verdict) (past b ∙ row_hit 14 0 (ltb (length buffer) 389) accepted (lt-ltb (length buffer) 389 h))
+    buffer_row b h = rw (ok, label_verdict) (past b ∙ row_hit 14 0 (ltb (length buffer) 454) accepted (lt-ltb (length buffer) 454 h))
 
-    pub no_row : bad_set r s ≡ false → 389 ≤ length buffer → label_verdict r s (length buffer) ≡ accepted
+    pub no_row : bad_set r s ≡ false → 454 ≤ length buffer → label_verdict r s (length buffer) ≡ accepted
     unfolding label_verdict
-    no_row b h = rw (ok, label_verdict) (past b ∙ row_pass 14 0 (ltb (length buffer) 389) accepted (le-ltb (length buffer) 389 h))
+    no_row b h = rw (ok, label_verdict) (past b ∙ row_pass 14 0 (ltb (length buffer) 454) accepted (le-ltb (length buffer) 454 h))
 
     -- what row 13 leaves: a fragment of the record
     pub good_set : bad_set r s ≡ false → Own r s × Connected r s

@@ -105,6 +105,7 @@ module _ (r q : Bytes) (h k : ℕ) (o : Own q k) (w : Isomorphism r h q k) where
       bond_onto = c.onto;
       bond_one = λ i j m n. w.bond_one i j (wide i m) (wide j n);
       elements = λ v (i, m, e). w.elements v (i, wide i m, e);
+      classes = λ v (i, m, e). w.classes v (i, wide i m, e);
       codes = λ i m. w.codes i (wide i m);
       ends = λ i m. w.ends i (wide i m);
     }

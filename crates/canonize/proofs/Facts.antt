@@ -1,37 +1,67 @@
 -- What upper crates use: connected sets of bonds of a tree molecule have equal labels exactly when an isomorphism joins them; sizes and
 -- lengths; the label sees neither order nor direction; an isomorphism carries every part along; how a tree is built.
-use mathlib.Core.Path.{◌≡◌, refl, sym, ap}
+use mathlib.Core.Path.{◌≡◌, refl, sym, ap, ◌∙◌}
 use mathlib.Core.Logic.{◌⊎◌, inl, inr}
 use mathlib.Core.List.Memᴰ.{cast as mem_cast}
 use mathlib.Core.List.Memᴰ.{head as m_head}
 use mathlib.Core.List.Memᴰ.{map as mem_map}
 use mathlib.Core.List.Memᴰ.{of_map as mem_of_map}
 use mathlib.Core.List.Memᴰ.{tail as m_tail}
+use mathlib.Core.List.Permᴰ.{cons as p_cons}
+use mathlib.Core.List.Permᴰ.{nil as p_nil}
+use mathlib.Core.List.Permᴰ.{swap as p_swap}
 use mathlib.Core.List.Permᴰ.{symm as perm_sym}
+use mathlib.Core.List.Permᴰ.{trans as p_trans}
 use mathlib.Core.List.{List, [], ◌∷◌, ◌++◌, map, Memᴰ as Mem, Permᴰ as Perm}
 use Prim.Native.Nat.{ℕ, ◌+◌, ◌*◌}
 use native.Mathlib.Omega.{arith}
 use lib.ListN.{length, length-map}
 use Rattle.molecule.proofs.Perms.{perm_length, perm_mem, Distinct, distinct_perm, map_distinct}
 use Rattle.canonize.specs.Fragment.{Bond, Frag, arcs}
-use Rattle.canonize.proofs.RoseTrees.{RoseTree, bonds_in, bonds, code_length, two_code_length}
-use Rattle.canonize.proofs.Pairing.{all_items, items_length}
+use Rattle.canonize.proofs.RoseTrees.{Kids, nil, kid, RoseTree, bonds_in, bonds, own_in, own_bytes, code_length, two_code_length}
+use Rattle.canonize.proofs.Pairing.{atoms, all_items, items_length}
+use Rattle.canonize.proofs.Marks.{own_of}
 use Rattle.canonize.proofs.Peeling.{arcs_length, on_bond, tree_label, Joined}
 use Rattle.canonize.proofs.Rounds.{to_bond, arcs_some}
-use Rattle.canonize.proofs.Hanging.{Clean, Holds, Result, one_centre, two_centres, attach, result, joined_of_label}
+use Rattle.canonize.proofs.Hanging.{CodesOf, Clean, Holds, Result, one_centre, two_centres, attach, result, joined_of_label}
 use Rattle.canonize.proofs.Parts.{ConnectedBonds, connected_tree}
 
 -- lengths
 holds_bonds : (t : RoseTree) (a : Frag) → Holds t a → bonds t ≡ length a.bonds
 holds_bonds t a h = omega (arith, items_length t.atom t.kids, perm_length h.bonds, arcs_length (map to_bond (all_items t)), arcs_length a.bonds, length-map (all_items t) to_bond)
 
-pub label_length : (a : Frag) → Clean a → (length (tree_label a) ≡ 6 * length a.bonds + 3) ⊎ (length (tree_label a) ≡ 6 * length a.bonds + 5)
-unfolding bonds_in
+own_append : (kind : ℕ → List ℕ) (k l : List ℕ) → own_of kind (k ++ l) ≡ own_of kind k + own_of kind l
+unfolding own_of
+own_append kind [] l = omega arith
+own_append kind (n ∷ k) l = omega (arith, own_append kind k l)
+
+own_perm : (kind : ℕ → List ℕ) {k l : List ℕ} → Perm k l → own_of kind k ≡ own_of kind l
+unfolding own_of
+own_perm kind p_nil = refl
+own_perm kind (p_cons e d) = omega (arith, ap (λ (n : ℕ). length (kind n)) e, own_perm kind d)
+own_perm kind (p_swap e g) = omega (arith, ap (λ (n : ℕ). length (kind n)) e, ap (λ (n : ℕ). length (kind n)) g)
+own_perm kind (p_trans d g) = own_perm kind d ∙ own_perm kind g
+
+own_kids : (kind : ℕ → List ℕ) (k : Kids) → CodesOf kind k → own_in k ≡ own_of kind (atoms k)
+unfolding own_in own_of
+own_kids kind nil f = refl
+own_kids kind (kid b a e u r) f = omega (arith, ap length f.0, own_kids kind u f.3, own_kids kind r f.4, own_append kind (atoms u) (atoms r))
+
+holds_own : (t : RoseTree) (a : Frag) → Holds t a → own_bytes t ≡ own_of a.kind a.atoms
+unfolding own_of
+holds_own t a h = omega (arith, ap length h.root, own_kids a.kind t.kids h.fits, own_perm a.kind h.atoms)
+
+-- five bytes for each bond, those of the own strings, and two or four
+abbrev pub HasLength : Frag → ℕ → Type 0
+HasLength a n = (n ≡ 5 * length a.bonds + own_of a.kind a.atoms + 2) ⊎ (n ≡ 5 * length a.bonds + own_of a.kind a.atoms + 4)
+
+pub label_length : (a : Frag) → Clean a → HasLength a (length (tree_label a))
+unfolding bonds_in own_in
 label_length a c = go (result a c)
   where
-    go : Result a (tree_label a) → (length (tree_label a) ≡ 6 * length a.bonds + 3) ⊎ (length (tree_label a) ≡ 6 * length a.bonds + 5)
-    go (one_centre t h e) = inl (omega (arith, ap length e, code_length t, holds_bonds t a h))
-    go (two_centres n x y f g h k e) = inr (omega (arith, ap length e, two_code_length n x y, holds_bonds (attach n x y) a h))
+    go : Result a (tree_label a) → HasLength a (length (tree_label a))
+    go (one_centre t h e) = inl (omega (arith, ap length e, code_length t, holds_bonds t a h, holds_own t a h))
+    go (two_centres n x y f g h k e) = inr (omega (arith, ap length e, two_code_length n x y, holds_bonds (attach n x y) a h, holds_own (attach n x y) a h))
 
 pub label_size : (a b : Frag) → Clean a → Clean b → tree_label a ≡ tree_label b → length a.bonds ≡ length b.bonds
 label_size a b c d e =
@@ -54,7 +84,7 @@ distinct_image f (m ∷ ms) i d =
     (λ k. let (n, l, e) = mem_of_map f ms k in d.0 (mem_cast (i m n (m_head refl) (m_tail l) (sym e)) l), distinct_image f ms (λ x y p q. i x y (m_tail p) (m_tail q)) d.1)
 
 abbrev pub part : Frag → List ℕ → List Bond → Frag
-part a ms s = record { atoms = ms; bonds = s; elem = a.elem }
+part a ms s = record { atoms = ms; bonds = s; kind = a.kind }
 
 -- A set of bonds s of the molecule a, with the atoms ms that it touches
 pub record Piece (a : Frag) (ms : List ℕ) (s : List Bond) : Type 0 where
@@ -68,6 +98,6 @@ pub record Piece (a : Frag) (ms : List ℕ) (s : List Bond) : Type 0 where
 pub piece_clean : (a : Frag) → Clean a → (ms : List ℕ) (s : List Bond) → Piece a ms s → Clean (part a ms s)
 piece_clean a c ms s p = record {
   tree = connected_tree a.atoms a.bonds c.tree s p.rest p.chosen p.connected ms p.distinct p.ends p.touched;
-  elems = λ n m. let (x, i, e) = p.touched n m in c.elems n (mem_cast (sym e) (c.tree.ends x (arcs_some s p.rest p.chosen i)).1);
+  kinds = λ n m. let (x, i, e) = p.touched n m in c.kinds n (mem_cast (sym e) (c.tree.ends x (arcs_some s p.rest p.chosen i)).1);
   codes = λ x m. c.codes x (arcs_some s p.rest p.chosen m);
 }

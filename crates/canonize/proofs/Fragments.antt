@@ -12,7 +12,7 @@ use Rattle.bitset.specs.Bits.{bit, has, size, members}
 use Rattle.bitset.proofs.Laws.{member_lt, members_size}
 use Rattle.bitset.proofs.Members.{members_bit, bit_members, some_member}
 use Rattle.molecule.specs.Lists.{Bytes, numbers_from}
-use Rattle.molecule.specs.Record.{atoms, bonds, element, end_a, end_b, code, all_bonds}
+use Rattle.molecule.specs.Record.{atoms, bonds, element, class, end_a, end_b, code, all_bonds}
 use Rattle.molecule.specs.Check.{accepted, check}
 use Rattle.molecule.specs.Connected.{Own, Linked, here, step, Connected}
 use Rattle.molecule.specs.Tree.{Joins, Walk, stay, along as walk_on}
@@ -21,10 +21,11 @@ use Rattle.molecule.proofs.Trees.{accepted_tree}
 use Rattle.molecule.proofs.SetLists.{members_filter}
 use Rattle.molecule.proofs.Lists.{numbers_mem}
 use Rattle.canonize.specs.Fragment.{Bond, arcs, turn}
-use Rattle.canonize.specs.Label.{bond_of, bonds_of, fragment}
+use Rattle.canonize.specs.Label.{own_string, bond_of, bonds_of, fragment}
 use Rattle.canonize.specs.Isomorphism.{AtomOf}
 use Rattle.canonize.proofs.Rounds.{arcs_mem, arcs_turn}
 use Rattle.canonize.proofs.Hanging.{Clean}
+use Rattle.canonize.proofs.Marks.{own_small}
 use Rattle.canonize.proofs.Parts.{ConnectedBonds as Joint, arc_bond}
 use Rattle.canonize.proofs.Choose.{touched_has, touched_in}
 use Rattle.canonize.proofs.OfRecords.{Reach, at_root, along, Accepted, Steps, arrived, touching, connected_numbers}
@@ -61,12 +62,12 @@ module _ (r : Bytes) where
 -- ---- an accepted record
 
 module _ (r : Bytes) (e : check r ≡ accepted) where
-  record_accepted : Accepted (atoms r) (bonds r) (element r) (bond_of r)
+  record_accepted : Accepted (atoms r) (bonds r) (own_string r) (bond_of r)
   record_accepted =
       let t = accepted_tree r e in
       record {
         count = t.formed.sized.count;
-        elems = t.elements;
+        kinds = λ v l. own_small (element r v) (class r v) (t.elements v l) (t.classes v l);
         codes = λ i l. let h = t.codes i l in omega (arith, h.0, h.1);
         ends = λ i l. let h = t.formed.ends i l in (h.0, h.1);
         reached = λ v l. reached r (t.all v l);
@@ -111,4 +112,4 @@ module _ (r : Bytes) (s : ℕ) (e : check r ≡ accepted) (o : Own r s) where
   pub fragment_clean : Connected r s → Clean (fragment r s)
   fragment_clean k =
       let q = members_filter (bonds r) s o in
-      rw q (part_clean (atoms r) (bonds r) (element r) (bond_of r) (record_accepted r e) (has s) (rw q at (joint k)))
+      rw q (part_clean (atoms r) (bonds r) (own_string r) (bond_of r) (record_accepted r e) (has s) (rw q at (joint k)))

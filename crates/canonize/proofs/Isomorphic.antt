@@ -17,6 +17,7 @@ use Rattle.canonize.specs.Fragment.{arcs}
 use Rattle.canonize.specs.Label.{bonds_of, fragment, label}
 use Rattle.canonize.specs.Isomorphism.{AtomOf, Isomorphism}
 use Rattle.canonize.proofs.Fragments.{arc_has, arc_in, atom_in, atom_has, fragment_clean}
+use Rattle.canonize.proofs.Marks.{own_equal, own_element, own_class}
 use Rattle.canonize.proofs.Plain.{arc, Isomorphism as Alike, label_isomorphism}
 
 -- ---- what a bond joins
@@ -109,7 +110,8 @@ module _ (r q : Bytes) (s t : ℕ) (ar : check r ≡ accepted) (aq : check q ≡
       bond_into = λ i h. (sent i h).member;
       bond_onto = bond_onto;
       bond_one = bond_one;
-      elements = λ v a. w.elems v (atom_has r s ar or a);
+      elements = λ v a. own_element _ _ _ _ (w.kinds v (atom_has r s ar or a));
+      classes = λ v a. own_class _ _ _ _ (w.kinds v (atom_has r s ar or a));
       codes = λ i h. (sent i h).codes;
       ends = λ i h. (sent i h).ends;
     }
@@ -136,7 +138,7 @@ module _ (r q : Bytes) (s t : ℕ) (ar : check r ≡ accepted) (aq : check q ≡
       into = λ v m. atom_has q t aq oq (w.atom_into v (atom_in r s ar or m));
       onto = λ v m. let (u, a, e) = w.atom_onto v (atom_in q t aq oq m) in (u, atom_has r s ar or a, e);
       one_one = λ u v m n. w.atom_one u v (atom_in r s ar or m) (atom_in r s ar or n);
-      elems = λ v m. w.elements v (atom_in r s ar or m);
+      kinds = λ v m. own_equal _ _ _ _ (w.elements v (atom_in r s ar or m)) (w.classes v (atom_in r s ar or m));
       bonds = λ u v c m n. (there u v c, back u v c (atom_in r s ar or m) (atom_in r s ar or n));
     }
 

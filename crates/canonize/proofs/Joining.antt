@@ -14,6 +14,7 @@ use Rattle.canonize.specs.Strings.{sort, wrap, join, collapse}
 use Rattle.canonize.specs.Inner.Places.{Wrote, Least, After, FreeSlot}
 use Rattle.canonize.specs.Inner.Slate.{slot, Slots}
 use Rattle.canonize.proofs.Splitting.{sort_out, sort_split}
+use Rattle.canonize.proofs.Wrapping.{length_wrap, collapse_one}
 use Rattle.canonize.proofs.Writing.{wrote_nil, wrote_then}
 use Rattle.canonize.proofs.Slots.{room_part, room_ends, room_serves, room_same, room_length}
 
@@ -36,10 +37,10 @@ module _ (X : ℕ → Bytes) (s : ℕ) where
   unfolding join
   bundle_out i l = ap join (sort_out X s i l)
 
-  -- those before a byte, the byte, and those after it
-  pub collapse_split : (e t : ℕ) → After X s e t → collapse ((e ∷ []) ∷ map X (members s)) ≡ bundle X (diff s t) ++ (wrap (e ∷ []) ++ bundle X t)
+  -- those before x, x, and those after it
+  pub collapse_split : (x : Bytes) (t : ℕ) → After X s x t → collapse (x ∷ map X (members s)) ≡ bundle X (diff s t) ++ (wrap x ++ bundle X t)
   unfolding collapse join
-  collapse_split e t a = ap join (sort_split X s e t a) ∙ join_append (sort (map X (members (diff s t)))) ((e ∷ []) ∷ sort (map X (members t)))
+  collapse_split x t a = ap join (sort_split X s x t a) ∙ join_append (sort (map X (members (diff s t)))) (x ∷ sort (map X (members t)))
 
 -- the strings of the members alone matter
 pub bundle_same : (X Y : ℕ → Bytes) (s : ℕ) → ((i : ℕ) → bit s i ≡ 1 → X i ≡ Y i) → bundle X s ≡ bundle Y s
@@ -107,51 +108,52 @@ module _ {set : ℕ} {start : Bytes} {place : ℕ} (s : Slots start) (room : Fre
           ∙ p.all;
     }
 
--- ---- collapsed strings in three pieces: those before a byte, the byte, and those after it
+-- ---- collapsed strings in three pieces: those before x, x, and those after it
 
--- the one byte e and the strings of the set
-abbrev pub gathered : (ℕ → Bytes) → ℕ → ℕ → Bytes
-gathered X e s = collapse ((e ∷ []) ∷ map X (members s))
+-- x and the strings of the set
+abbrev pub gathered : (ℕ → Bytes) → Bytes → ℕ → Bytes
+gathered X x s = collapse (x ∷ map X (members s))
 
-three_sizes : {X : ℕ → Bytes} {s e t : ℕ} → After X s e t → length (gathered X e s) ≡ length (bundle X (diff s t)) + (3 + length (bundle X t))
-unfolding wrap
-three_sizes {X} {s} {e} {t} a =
-    ap length (collapse_split X s e t a)
-    ∙ length-append (bundle X (diff s t)) (wrap (e ∷ []) ++ bundle X t)
-    ∙ ap (λ (n : ℕ). length (bundle X (diff s t)) + n) (length-append (wrap (e ∷ [])) (bundle X t))
+three_sizes : {X : ℕ → Bytes} {s : ℕ} {x : Bytes} {t : ℕ} → After X s x t → length (gathered X x s) ≡ length (bundle X (diff s t)) + (length (wrap x) + length (bundle X t))
+three_sizes {X} {s} {x} {t} a =
+    ap length (collapse_split X s x t a)
+    ∙ length-append (bundle X (diff s t)) (wrap x ++ bundle X t)
+    ∙ ap (λ (n : ℕ). length (bundle X (diff s t)) + n) (length-append (wrap x) (bundle X t))
 
--- t are those after the byte, and there is room for all
-pub record Gathering (set e t : ℕ) (start : Bytes) (place : ℕ) : Type 0 where
+-- of no set they are that string
+pub gathered_alone : (X : ℕ → Bytes) (x : Bytes) (s : ℕ) → s ≡ 0 → gathered X x s ≡ wrap x
+gathered_alone X x s e = ap (λ (l : List ℕ). collapse (x ∷ map X l)) (members_done s e) ∙ collapse_one x
+
+-- t are those after x, and there is room for all
+pub record Gathering (set : ℕ) (x : Bytes) (t : ℕ) (start : Bytes) (place : ℕ) : Type 0 where
   pub serves : Slots start
-  pub after : After (slot start) set e t
-  pub room : FreeSlot set place (length (gathered (slot start) e set))
+  pub after : After (slot start) set x t
+  pub room : FreeSlot set place (length (gathered (slot start) x set))
 
 -- the same from its parts
-pub gathering : {set e t : ℕ} {start : Bytes} {place : ℕ} → Slots start → FreeSlot set place (length (gathered (slot start) e set)) → After (slot start) set e t
-    → Gathering set e t start place
+pub gathering : {set : ℕ} {x : Bytes} {t : ℕ} {start : Bytes} {place : ℕ} → Slots start → FreeSlot set place (length (gathered (slot start) x set)) → After (slot start) set x t
+    → Gathering set x t start place
 gathering s r a = record { serves = s; after = a; room = r }
 
-module _ {set e t : ℕ} {start : Bytes} {place : ℕ} (g : Gathering set e t start place) where
-  pieces : length (gathered (slot start) e set) ≡ length (bundle (slot start) (diff set t)) + (3 + length (bundle (slot start) t))
+module _ {set : ℕ} {x : Bytes} {t : ℕ} {start : Bytes} {place : ℕ} (g : Gathering set x t start place) where
+  pieces : length (gathered (slot start) x set) ≡ length (bundle (slot start) (diff set t)) + (length (wrap x) + length (bundle (slot start) t))
   pieces = three_sizes g.after
 
   pub room_before : FreeSlot (diff set t) place (length (bundle (slot start) (diff set t)))
   room_before = room_part g.room (diff set t) place (length (bundle (slot start) (diff set t))) (diff_sub set t) (omega arith) (omega (arith, pieces))
 
   module _ {middle : ℕ} {one : Bytes} (w : Wrote start place (bundle (slot start) (diff set t)) middle one) where
-    pub room_own : middle + 3 ≤ length one
-    room_own = omega (arith, pieces, w.place, room_length g.room g.serves w (omega (arith, pieces)), room_ends g.room g.serves)
+    pub room_own : middle + (length x + 2) ≤ length one
+    room_own = omega (arith, pieces, length_wrap x, w.place, room_length g.room g.serves w (omega (arith, pieces)), room_ends g.room g.serves)
 
-    module _ {last : ℕ} {two : Bytes} (v : Wrote one middle (wrap (e ∷ [])) last two) where
-      both : Wrote start place (bundle (slot start) (diff set t) ++ wrap (e ∷ [])) last two
-      unfolding wrap
+    module _ {last : ℕ} {two : Bytes} (v : Wrote one middle (wrap x) last two) where
+      both : Wrote start place (bundle (slot start) (diff set t) ++ wrap x) last two
       both = wrote_then w v (omega (arith, pieces, room_ends g.room g.serves))
 
-      both_size : length (bundle (slot start) (diff set t) ++ wrap (e ∷ [])) ≡ length (bundle (slot start) (diff set t)) + 3
-      unfolding wrap
-      both_size = length-append (bundle (slot start) (diff set t)) (wrap (e ∷ []))
+      both_size : length (bundle (slot start) (diff set t) ++ wrap x) ≡ length (bundle (slot start) (diff set t)) + length (wrap x)
+      both_size = length-append (bundle (slot start) (diff set t)) (wrap x)
 
-      both_short : length (bundle (slot start) (diff set t) ++ wrap (e ∷ [])) ≤ length (gathered (slot start) e set)
+      both_short : length (bundle (slot start) (diff set t) ++ wrap x) ≤ length (gathered (slot start) x set)
       both_short = omega (arith, pieces, both_size)
 
       later : bundle (slot two) t ≡ bundle (slot start) t
@@ -166,7 +168,7 @@ module _ {set e t : ℕ} {start : Bytes} {place : ℕ} (g : Gathering set e t st
           (room_part g.room t last (length (bundle (slot start) t)) g.after.within (omega (arith, both.place))
           (omega (arith, both.place, both_size, pieces)))
 
-      pub wrote_gathered : {next : ℕ} {now : Bytes} → Wrote two last (bundle (slot two) t) next now → Wrote start place (gathered (slot start) e set) next now
+      pub wrote_gathered : {next : ℕ} {now : Bytes} → Wrote two last (bundle (slot two) t) next now → Wrote start place (gathered (slot start) x set) next now
       wrote_gathered u =
-          rw (collapse_split (slot start) set e t g.after, ← append_assoc (bundle (slot start) (diff set t)) (wrap (e ∷ [])) (bundle (slot start) t))
+          rw (collapse_split (slot start) set x t g.after, ← append_assoc (bundle (slot start) (diff set t)) (wrap x) (bundle (slot start) t))
           (wrote_then both (rw later at u) (omega (arith, pieces, both_size, room_ends g.room g.serves)))

@@ -13,35 +13,61 @@ use Rattle.bitset.specs.Bits.{bit, Sub, Disjoint, size}
 use Rattle.bitset.proofs.Laws.{member_lt, size_le, one_sub}
 use Rattle.bitset.proofs.Decide.{sets, v, or, sub}
 use Rattle.molecule.specs.Lists.{Bytes}
-use Rattle.molecule.specs.Record.{bonds}
+use Rattle.molecule.specs.Record.{bonds, class}
 use Rattle.molecule.specs.Check.{accepted, check}
 use Rattle.molecule.specs.Connected.{Touch, Own, Connected}
 use Rattle.molecule.proofs.Accepted.{accepted_formed}
 use Rattle.molecule.proofs.Components.{own_sub, pair_connected}
 use Rattle.canonize.specs.Strings.{lex_le, hash, hash_from}
-use Rattle.canonize.specs.Label.{fragment, label}
+use Rattle.canonize.specs.Label.{marks, own_string, fragment, label, marked}
 use Rattle.canonize.specs.Isomorphism.{Isomorphism}
 use Rattle.canonize.proofs.Sorting.{lex_refl, lex_trans, lex_antisym, lex_total, lex→lexLe, lexle→lex}
 use Rattle.canonize.proofs.OnStrings.{label_document}
-use Rattle.canonize.proofs.Facts.{label_length as tree_length, label_size as tree_size}
-use Rattle.canonize.proofs.OfRecords.{label_fits as tree_fits}
+use Rattle.canonize.proofs.Facts.{HasLength, label_length as tree_length, label_size as tree_size}
+use Rattle.canonize.proofs.Marks.{own_of, own_count}
+use Rattle.canonize.proofs.Parts.{keep_le}
+use Rattle.canonize.proofs.Peeling.{tree_label}
 use Rattle.canonize.proofs.Fragments.{fragment_bonds, fragment_clean}
 use Rattle.canonize.proofs.Carried.{Carried, image, image_carried, pair_carried, touch_goes, carried_sub, carried_apart, carried_iso, carried_connected}
 pub use Rattle.canonize.proofs.Isomorphic.{label_iff}
 pub use Rattle.canonize.proofs.Sorting.{lexle_turn, sort_perm, sort_canonical, perm_of_sort}
 pub use Rattle.canonize.proofs.Comparing.{same_refl, same_is, same_iff, gt_lex}
+pub use Rattle.canonize.proofs.Natural.{label_by_elements, natural_label, natural_reads}
 pub use Rattle.canonize.proofs.Answers.{answer_refused, answer_label, record_row, set_row, buffer_row, no_row, good_set}
 
 -- ---- lengths
 
 module _ (r : Bytes) (s : ℕ) (a : check r ≡ accepted) (o : Own r s) (k : Connected r s) where
-  pub label_length : (length (label r s) ≡ 6 * size s + 3) ⊎ (length (label r s) ≡ 6 * size s + 5)
-  unfolding label
-  label_length = rw (← (label_document (fragment r s)), ← (fragment_bonds r s)) (tree_length (fragment r s) (fragment_clean r s a o k))
+  -- one byte for each atom's element code, and one more for each marked atom
+  own_bytes : own_of (own_string r) (fragment r s).atoms ≡ size s + 1 + marked r s
+  unfolding marked
+  own_bytes = omega (arith, own_count r (fragment r s).atoms, (fragment_clean r s a o k).tree.count, fragment_bonds r s)
 
-  pub label_fits : length (label r s) ≤ 389
+  pub label_length : (length (label r s) ≡ 6 * size s + 3 + marked r s) ⊎ (length (label r s) ≡ 6 * size s + 5 + marked r s)
   unfolding label
-  label_fits = tree_fits (fragment r s) (fragment_clean r s a o k) (omega (arith, fragment_bonds r s, size_le (bonds r) s o, (accepted_formed r a).sized.few))
+  label_length = rw (← (label_document (fragment r s))) (go (tree_length (fragment r s) (fragment_clean r s a o k)))
+    where
+      n : ℕ
+      n = length (tree_label (fragment r s))
+
+      go : HasLength (fragment r s) n → (n ≡ 6 * size s + 3 + marked r s) ⊎ (n ≡ 6 * size s + 5 + marked r s)
+      go (inl e) = inl (omega (arith, own_bytes, fragment_bonds r s))
+      go (inr e) = inr (omega (arith, own_bytes, fragment_bonds r s))
+
+  -- every atom may be marked
+  pub marked_few : marked r s ≤ size s + 1
+  unfolding marked
+  marked_few = omega (arith, keep_le (λ v. marks (class r v)) (fragment r s).atoms, (fragment_clean r s a o k).tree.count, fragment_bonds r s)
+
+  pub label_fits : length (label r s) ≤ 454
+  label_fits = go label_length
+    where
+      few : size s ≤ 64
+      few = omega (arith, size_le (bonds r) s o, (accepted_formed r a).sized.few)
+
+      go : (length (label r s) ≡ 6 * size s + 3 + marked r s) ⊎ (length (label r s) ≡ 6 * size s + 5 + marked r s) → length (label r s) ≤ 454
+      go (inl e) = omega (arith, few, marked_few)
+      go (inr e) = omega (arith, few, marked_few)
 
 -- ---- two sets with one label
 

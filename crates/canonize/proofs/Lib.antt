@@ -3,6 +3,7 @@ pub mod Sorting
 pub mod Wrapping
 pub mod Sums
 pub mod RoseTrees
+pub mod Marks
 pub mod Pairing
 pub mod Peeling
 pub mod Rounds
@@ -17,6 +18,7 @@ pub mod Fragments
 pub mod Isomorphic
 pub mod Carried
 pub mod Laws
+pub mod Natural
 pub mod Words
 pub mod Rounding
 pub mod Comparing

@@ -1,4 +1,4 @@
--- A record that is accepted is a clean tree: rows 2 to 6 of document 01 give Clean; and sets of bond numbers.
+-- A record that is accepted is a clean tree: what the rows leave gives Clean; and sets of bond numbers.
 use Rattle.bitset.proofs.Bools.{two}
 use mathlib.Core.Path.{◌≡◌, sym, ap, subst, ◌∙◌}
 use mathlib.Core.Logic.{◌⊎◌, inl, inr}
@@ -7,20 +7,17 @@ use mathlib.Core.List.Memᴰ.{cast as mem_cast}
 use mathlib.Core.List.Memᴰ.{map as mem_map}
 use mathlib.Core.List.Memᴰ.{of_map as mem_of_map}
 use mathlib.Core.List.{List, map, Memᴰ as Mem}
-use Prim.Native.Nat.{ℕ, ◌+◌, ◌*◌, ◌≤◌, ◌<◌}
+use Prim.Native.Nat.{ℕ, ◌+◌, ◌<◌}
 use native.Mathlib.Omega.{arith}
-use lib.ListN.{length, length-map}
+use lib.ListN.{length-map}
 use Rattle.molecule.specs.Lists.{numbers_from, filter}
 use Rattle.molecule.proofs.Perms.{not_both, numbers_length, numbers_distinct}
 use Rattle.molecule.proofs.Lists.{numbers_bounds, numbers_mem}
-use Rattle.canonize.specs.Fragment.{Bond, Frag, arcs, label_of, touched_by, turn}
-use Rattle.canonize.proofs.RoseTrees.{Code}
-use Rattle.canonize.proofs.Peeling.{tree_label}
+use Rattle.canonize.specs.Fragment.{Bond, Frag, arcs, touched_by, turn}
+use Rattle.canonize.proofs.RoseTrees.{Code, SmallString}
 use Rattle.canonize.proofs.Rounds.{arcs_turn}
 use Rattle.canonize.proofs.Hanging.{Clean}
 use Rattle.canonize.proofs.Parts.{ConnectedBonds, BondWalk, stop, step, Meets, Crossed, arc_bond}
-use Rattle.canonize.proofs.Facts.{label_length}
-use Rattle.canonize.proofs.OnStrings.{label_document}
 
 -- atoms reached from r
 pub data Reach (bs : List Bond) (r : ℕ) : ℕ → Type 0 where
@@ -54,26 +51,26 @@ reach_linked ns bs r w S p q i j h k = go (two (S r))
     go (inl z) = reach_out S bs r (w q j) z k
     go (inr z) = reach_in S bs r (w p i) z h
 
--- rows 2 to 6: one atom more than bonds, codes in range, ends below a, every atom reached from atom 0
-pub record Accepted (a n : ℕ) (elem : ℕ → ℕ) (bond : ℕ → Bond) : Type 0 where
+-- what the rows leave: one atom more than bonds, codes in range, ends below a, every atom reached from atom 0
+pub record Accepted (a n : ℕ) (kind : ℕ → List ℕ) (bond : ℕ → Bond) : Type 0 where
   pub count : a ≡ n + 1
-  pub elems : (i : ℕ) → i < a → Code (elem i)
+  pub kinds : (i : ℕ) → i < a → SmallString (kind i)
   pub codes : (j : ℕ) → j < n → Code (bond j).code
   pub ends : (j : ℕ) → j < n → ((bond j).u < a) × ((bond j).v < a)
   pub reached : (i : ℕ) → i < a → Reach (map bond (numbers_from 0 n)) 0 i
 
-abbrev pub molecule : ℕ → ℕ → (ℕ → ℕ) → (ℕ → Bond) → Frag
-molecule a n elem bond = record { atoms = numbers_from 0 a; bonds = map bond (numbers_from 0 n); elem = elem }
+abbrev pub molecule : ℕ → ℕ → (ℕ → List ℕ) → (ℕ → Bond) → Frag
+molecule a n kind bond = record { atoms = numbers_from 0 a; bonds = map bond (numbers_from 0 n); kind = kind }
 
-pub accepted_clean : (a n : ℕ) (elem : ℕ → ℕ) (bond : ℕ → Bond) → Accepted a n elem bond → Clean (molecule a n elem bond)
-accepted_clean a n elem bond r = record {
+pub accepted_clean : (a n : ℕ) (kind : ℕ → List ℕ) (bond : ℕ → Bond) → Accepted a n kind bond → Clean (molecule a n kind bond)
+accepted_clean a n kind bond r = record {
   tree = record {
     distinct = numbers_distinct a 0;
     ends = λ x m. ends_of x (numbered x m);
     count = omega (arith, numbers_length a 0, numbers_length n 0, length-map (numbers_from 0 n) bond, r.count);
     linked = reach_linked (numbers_from 0 a) (map bond (numbers_from 0 n)) 0 (λ i m. let h = numbers_bounds a 0 m in r.reached i (omega arith));
   };
-  elems = λ i m. let h = numbers_bounds a 0 m in r.elems i (omega arith);
+  kinds = λ i m. let h = numbers_bounds a 0 m in r.kinds i (omega arith);
   codes = λ x m. code_of x (numbered x m);
 }
   where
@@ -124,13 +121,5 @@ connected_numbers bond s i m w = record {
     walked (touching n p q k t) = step n p q (mem_map bond k) (walked t)
 
 -- the fragment of a set of bonds of the record, the set being a test on bond numbers
-abbrev pub fragment : ℕ → ℕ → (ℕ → ℕ) → (ℕ → Bond) → (ℕ → Bool) → Frag
-fragment a n elem bond p = record { atoms = touched_by (map bond (filter p (numbers_from 0 n))) (numbers_from 0 a); bonds = map bond (filter p (numbers_from 0 n)); elem = elem }
-
--- 64 bonds: 389 bytes are enough
-pub label_fits : (a : Frag) → Clean a → length a.bonds ≤ 64 → length (label_of a) ≤ 389
-label_fits a c h = rw (← (label_document a)) (go (label_length a c))
-  where
-    go : (length (tree_label a) ≡ 6 * length a.bonds + 3) ⊎ (length (tree_label a) ≡ 6 * length a.bonds + 5) → length (tree_label a) ≤ 389
-    go (inl e) = omega arith
-    go (inr e) = omega arith
+abbrev pub fragment : ℕ → ℕ → (ℕ → List ℕ) → (ℕ → Bond) → (ℕ → Bool) → Frag
+fragment a n kind bond p = record { atoms = touched_by (map bond (filter p (numbers_from 0 n))) (numbers_from 0 a); bonds = map bond (filter p (numbers_from 0 n)); kind = kind }

@@ -19,15 +19,15 @@ use lib.ListN.{length, length-append}
 use Rattle.molecule.proofs.Perms.{perm_append, perm_exchange, perm_eq, Distinct, distinct_left, distinct_right, distinct_apart, distinct_perm, perm_map, map-append, memb}
 use Rattle.canonize.proofs.RoseTrees.{Kids, nil, kid, RoseTree, bonds_in, Kid, here, there, Like, no_kids, pair, ◌≈◌}
 
--- what a child says: its parent, the bond's code, its atom and its element code
+-- what a child says: its parent, the bond's code, its atom and its own string
 pub record Item : Type 0 where
   pub up : ℕ
   pub bond : ℕ
   pub atom : ℕ
-  pub elem : ℕ
+  pub kind : List ℕ
 
-abbrev pub item : ℕ → ℕ → ℕ → ℕ → Item
-item p b a e = record { up = p; bond = b; atom = a; elem = e }
+abbrev pub item : ℕ → ℕ → ℕ → List ℕ → Item
+item p b a e = record { up = p; bond = b; atom = a; kind = e }
 
 -- the children, grandchildren and so on of p
 abbrev pub items : ℕ → Kids → List Item
@@ -35,7 +35,7 @@ items p nil = []
 items p (kid b a e u r) = item p b a e ∷ (items a u ++ items p r)
 
 abbrev pub on_item : (ℕ → ℕ) → Item → Item
-on_item f i = item (f i.up) i.bond (f i.atom) i.elem
+on_item f i = item (f i.up) i.bond (f i.atom) i.kind
 
 abbrev pub atoms : Kids → List ℕ
 atoms nil = []
@@ -68,9 +68,9 @@ relabel_agree f g (kid b a e u r) h =
 -- the same children in another order
 pub data Shuffled : Kids → Kids → Type 0 where
   s_nil : Shuffled nil nil
-  s_kid : {b a e : ℕ} {u r u₁ r₁ k : Kids} → Kid k b a e u₁ r₁ → Shuffled u u₁ → Shuffled r r₁ → Shuffled (kid b a e u r) k
+  s_kid : {b a : ℕ} {e : List ℕ} {u r u₁ r₁ k : Kids} → Kid k b a e u₁ r₁ → Shuffled u u₁ → Shuffled r r₁ → Shuffled (kid b a e u r) k
 
-kid_items : {k u r : Kids} {b a e : ℕ} (p : ℕ) → Kid k b a e u r → Perm (item p b a e ∷ (items a u ++ items p r)) (items p k)
+kid_items : {k u r : Kids} {b a : ℕ} {e : List ℕ} (p : ℕ) → Kid k b a e u r → Perm (item p b a e ∷ (items a u ++ items p r)) (items p k)
 kid_items p here = perm_refl _
 kid_items {b = b} {a = a} {e = e} p (there {b₁ = b₁} {a₁ = a₁} {e₁ = e₁} {u = u} {u₁ = u₁} {r₁ = r₁} o) =
     p_trans (perm_exchange (item p b a e ∷ items a u) (item p b₁ a₁ e₁ ∷ items a₁ u₁) (items p r₁)) (perm_left (item p b₁ a₁ e₁ ∷ items a₁ u₁) (kid_items p o))
@@ -82,7 +82,7 @@ shuffled_items p (s_kid {a = a} o s t) = p_trans (p_cons refl (perm_append (shuf
 -- position by position the same bonds and elements
 pub data Twin : Kids → Kids → Type 0 where
   t_nil : Twin nil nil
-  t_kid : {b a e b₁ a₁ e₁ : ℕ} {u r u₁ r₁ : Kids} → b ≡ b₁ → e ≡ e₁ → Twin u u₁ → Twin r r₁ → Twin (kid b a e u r) (kid b₁ a₁ e₁ u₁ r₁)
+  t_kid : {b a b₁ a₁ : ℕ} {e e₁ : List ℕ} {u r u₁ r₁ : Kids} → b ≡ b₁ → e ≡ e₁ → Twin u u₁ → Twin r r₁ → Twin (kid b a e u r) (kid b₁ a₁ e₁ u₁ r₁)
 
 -- one shape: a twin of the first is the second in another order
 pub like_twin : {k l : Kids} → Like k l → (m : Kids) × Twin k m × Shuffled m l
@@ -118,7 +118,7 @@ choose_three (no p) (no k) c x y h q = refl
 either : (ℕ → ℕ) → (ℕ → ℕ) → List ℕ → ℕ → ℕ → ℕ → ℕ
 either f g l a c n = choose (ℕ_discrete n a) (memb n l) c (f n) (g n)
 
-twin_step : {b a e b₁ a₁ e₁ : ℕ} (u r : Kids) {u₁ r₁ : Kids} (f g : ℕ → ℕ) → b ≡ b₁ → e ≡ e₁ → Distinct (a ∷ (atoms u ++ atoms r)) → relabel f u ≡ u₁ → relabel g r ≡ r₁
+twin_step : {b a b₁ a₁ : ℕ} {e e₁ : List ℕ} (u r : Kids) {u₁ r₁ : Kids} (f g : ℕ → ℕ) → b ≡ b₁ → e ≡ e₁ → Distinct (a ∷ (atoms u ++ atoms r)) → relabel f u ≡ u₁ → relabel g r ≡ r₁
     → relabel (either f g (atoms u) a a₁) (kid b a e u r) ≡ kid b₁ a₁ e₁ u₁ r₁
 unfolding either
 twin_step {a = a} {a₁ = a₁} u r f g p q d h i =
@@ -141,7 +141,7 @@ twin_map (t_kid {a = a} {a₁ = a₁} {u = u} {r = r} p q s t) d =
 pub record Iso (x y : RoseTree) : Type 0 where
   pub f : ℕ → ℕ
   pub root : f x.atom ≡ y.atom
-  pub root_elem : x.elem ≡ y.elem
+  pub root_kind : x.kind ≡ y.kind
   pub all : Perm (map (on_item f) (all_items x)) (all_items y)
 
 append_nothing : {A : Type 0} (l : List A) → Perm (l ++ []) l
@@ -161,12 +161,12 @@ unfolding kids_under kids_atom
 iso_of_shape x y d h =
     let (m, s, t) = like_twin h.1 in
     -- the tree as the one child of nobody
-    let w : Twin (kid 0 x.atom x.elem x.kids nil) (kid 0 y.atom y.elem m nil) = t_kid refl h.0 s t_nil in
+    let w : Twin (kid 0 x.atom x.kind x.kids nil) (kid 0 y.atom y.kind m nil) = t_kid refl h.0 s t_nil in
     let (f, e) = twin_map w (distinct_perm (p_cons refl (perm_sym (append_nothing (atoms x.kids)))) d) in
     let root : f x.atom ≡ y.atom = ap kids_atom e in
     let under : relabel f x.kids ≡ m = ap kids_under e in
     let same : map (on_item f) (all_items x) ≡ items y.atom m = sym (items_relabel f x.atom x.kids) ∙ ap₂ items root under in
-    record { f = f; root = root; root_elem = h.0; all = p_trans (perm_eq same) (shuffled_items y.atom t) }
+    record { f = f; root = root; root_kind = h.0; all = p_trans (perm_eq same) (shuffled_items y.atom t) }
 
 -- what follows: the atoms go one to one onto the atoms
 pub iso_atoms : (x y : RoseTree) (i : Iso x y) → Perm (map i.f (all_atoms x)) (all_atoms y)

@@ -22,7 +22,7 @@ both_true : (a b : Bool) → a ≡ true → b ≡ true → both a b ≡ true
 both_true a b e f = rw (e, f)
 
 -- counting
-keep_le : {A : Type 0} (p : A → Bool) (l : List A) → length (filter p l) ≤ length l
+pub keep_le : {A : Type 0} (p : A → Bool) (l : List A) → length (filter p l) ≤ length l
 keep_le p l = omega (arith, perm_length (keep_split p l), length-append (filter (λ x. not (p x)) l) (filter p l))
 
 keep_all : {A : Type 0} (p : A → Bool) (l : List A) → ((x : A) → Mem x l → p x ≡ true) → length (filter p l) ≡ length l

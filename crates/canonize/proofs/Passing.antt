@@ -2,7 +2,6 @@
 use mathlib.Core.Path.{◌≡◌, refl}
 use mathlib.Core.Logic.{⊎_elim}
 use mathlib.Core.Bool.{true, false}
-use mathlib.Core.List.{[], ◌∷◌}
 use Prim.Native.Nat.{ℕ, ◌^◌}
 use native.Mathlib.Omega.{arith}
 use lib.Bits.{bit_or}
@@ -53,20 +52,20 @@ module _ {X : ℕ → Bytes} where
     first = λ j g. ⊎_elim (λ e. lexle_trans (X i) (X b) (X j) (lexle_turn (X b) (X i) h) (l.first j e)) (λ e. rw (one_is i j e) (lexle_refl (X i))) (or_cases s (2 ^ i) j g);
   }
 
-  -- ---- the strings after a byte so far
+  -- ---- the strings after x so far
 
-  pub after_none : (e : ℕ) → After X 0 e 0
-  after_none e = record { within = refl; yes = λ j h. absurd (omega (arith, bit_empty j)); no = λ j h g. absurd (omega (arith, bit_empty j)) }
+  pub after_none : (x : Bytes) → After X 0 x 0
+  after_none x = record { within = refl; yes = λ j h. absurd (omega (arith, bit_empty j)); no = λ j h g. absurd (omega (arith, bit_empty j)) }
 
-  pub after_with : {s e t : ℕ} (i : ℕ) → After X s e t → lex_le (e ∷ []) (X i) ≡ true → After X (bit_or s (2 ^ i)) e (bit_or t (2 ^ i))
-  after_with {s} {e} {t} i a h = record {
+  pub after_with : {s : ℕ} {x : Bytes} {t : ℕ} (i : ℕ) → After X s x t → lex_le x (X i) ≡ true → After X (bit_or s (2 ^ i)) x (bit_or t (2 ^ i))
+  after_with {s} {x} {t} i a h = record {
     within = same (λ j. simp digits (omega (arith, sub_bit t s j a.within)));
     yes = λ j g. ⊎_elim (λ k. a.yes j k) (λ k. rw (one_is i j k) h) (or_cases t (2 ^ i) j g);
     no = λ j g k. ⊎_elim (λ (m : bit s j ≡ 1). a.no j m (omega (arith, bit-or t (2 ^ i) j))) (λ (m : bit (2 ^ i) j ≡ 1). absurd (omega (arith, bit-or t (2 ^ i) j))) (or_cases s (2 ^ i) j g);
   }
 
-  pub after_less : {s e t : ℕ} (i : ℕ) → After X s e t → lex_le (e ∷ []) (X i) ≡ false → After X (bit_or s (2 ^ i)) e t
-  after_less {s} {e} {t} i a h = record {
+  pub after_less : {s : ℕ} {x : Bytes} {t : ℕ} (i : ℕ) → After X s x t → lex_le x (X i) ≡ false → After X (bit_or s (2 ^ i)) x t
+  after_less {s} {x} {t} i a h = record {
     within = sub_trans t s (bit_or s (2 ^ i)) a.within (sub_or s (2 ^ i));
     yes = a.yes;
     no = λ j g k. ⊎_elim (λ (m : bit s j ≡ 1). a.no j m k) (λ (m : bit (2 ^ i) j ≡ 1). rw (one_is i j m) h) (or_cases s (2 ^ i) j g);

@@ -33,11 +33,11 @@ pub record TreePeel : Type 0 where
   pub left : List Bond
   pub under : ℕ → Kids
 
-module _ (elem : ℕ → ℕ) where
+module _ (kind : ℕ → List ℕ) where
   -- the arcs' far ends, each with what hangs under it, before the children k
   abbrev pub gather : (ℕ → Kids) → List Bond → Kids → Kids
   gather T [] k = k
-  gather T (x ∷ xs) k = kid x.code x.v (elem x.v) (T x.v) (gather T xs k)
+  gather T (x ∷ xs) k = kid x.code x.v (kind x.v) (T x.v) (gather T xs k)
 
   -- all end atoms E are taken off, and each hands its neighbour what hangs under it
   abbrev pub take_off : (ℕ → Bool) → TreePeel → TreePeel
@@ -63,7 +63,7 @@ module _ (elem : ℕ → ℕ) where
   settle_stop k d e = rw (e, tree_peel)
 
   abbrev pub tree_at : TreePeel → ℕ → RoseTree
-  tree_at d n = record { atom = n; elem = elem n; kids = d.under n }
+  tree_at d n = record { atom = n; kind = kind n; kids = d.under n }
 
   -- one atom left, or two with their bond; nothing else is left of a tree
   abbrev pub tree_two : List Bond → TreePeel → List ℕ
@@ -84,13 +84,13 @@ abbrev pub tree_start : Frag → TreePeel
 tree_start a = record { present = a.atoms; left = a.bonds; under = λ n. nil }
 
 unfoldable pub tree_label : Frag → List ℕ
-tree_label a = tree_finish a.elem (tree_peel a.elem (length a.atoms) (tree_start a))
+tree_label a = tree_finish a.kind (tree_peel a.kind (length a.atoms) (tree_start a))
 
 -- A map of the atoms of a one to one onto those of b that keeps elements, and bonds with their codes
 pub record Joined (a b : Frag) : Type 0 where
   pub f : ℕ → ℕ
   pub onto : Perm (map f a.atoms) b.atoms
-  pub elems : (n : ℕ) → Mem n a.atoms → b.elem (f n) ≡ a.elem n
+  pub kinds : (n : ℕ) → Mem n a.atoms → b.kind (f n) ≡ a.kind n
   pub bonds : Perm (map (on_bond f) (arcs a.bonds)) (arcs b.bonds)
 
 -- well formed: the atoms are different and the bonds' ends are among them
@@ -129,12 +129,12 @@ both_swap true false = refl
 both_swap false true = refl
 both_swap false false = refl
 
-pub gather_strings : (elem : ℕ → ℕ) (T : ℕ → Kids) (xs : List Bond) (k : Kids) → strings (gather elem T xs k) ≡ map (λ (x : Bond). x.code ∷ node_code (elem x.v) (T x.v)) xs ++ strings k
+pub gather_strings : (kind : ℕ → List ℕ) (T : ℕ → Kids) (xs : List Bond) (k : Kids) → strings (gather kind T xs k) ≡ map (λ (x : Bond). x.code ∷ node_code (kind x.v) (T x.v)) xs ++ strings k
 unfolding strings
-gather_strings elem T [] k = refl
-gather_strings elem T (x ∷ xs) k = ap (λ (l : List (List ℕ)). (x.code ∷ node_code (elem x.v) (T x.v)) ∷ l) (gather_strings elem T xs k)
+gather_strings kind T [] k = refl
+gather_strings kind T (x ∷ xs) k = ap (λ (l : List (List ℕ)). (x.code ∷ node_code (kind x.v) (T x.v)) ∷ l) (gather_strings kind T xs k)
 
-module _ (s : List ℕ) (f elem elem₂ : ℕ → ℕ) (inj : (a b : ℕ) → Mem a s → Mem b s → f a ≡ f b → a ≡ b) (el : (n : ℕ) → Mem n s → elem₂ (f n) ≡ elem n) where
+module _ (s : List ℕ) (f : ℕ → ℕ) (kind kind₂ : ℕ → List ℕ) (inj : (a b : ℕ) → Mem a s → Mem b s → f a ≡ f b → a ≡ b) (el : (n : ℕ) → Mem n s → kind₂ (f n) ≡ kind n) where
   pub record Alike (d e : TreePeel) : Type 0 where
     pub present : Perm (map f d.present) e.present
     pub left : Perm (map (on_bond f) (arcs d.left)) (arcs e.left)
@@ -151,14 +151,14 @@ module _ (s : List ℕ) (f elem elem₂ : ℕ → ℕ) (inj : (a b : ℕ) → Me
       p_trans (perm_eq (sym (keep_map (on_bond f) (λ (x : Bond). eqb x.v n) (λ (x : Bond). eqb x.v (f n)) (arcs d.left) (λ x k. eqb_image x.v n (r.ends x k).1 m)))) (keep_perm (λ (x : Bond). eqb x.v (f n)) r.left) in
       ap (λ (k : ℕ). eqb k 1) (sym (sym (length-map (filter (λ (x : Bond). eqb x.v n) (arcs d.left)) (on_bond f)) ∙ perm_length p))
 
-  pub node_alike : (d e : TreePeel) → Alike d e → (n : ℕ) → Mem n s → node_code (elem n) (d.under n) ≡ node_code (elem₂ (f n)) (e.under (f n))
-  node_alike d e r n m = collapse_canonical (p_cons (ap (λ (k : ℕ). k ∷ []) (sym (el n m))) (r.under n m))
+  pub node_alike : (d e : TreePeel) → Alike d e → (n : ℕ) → Mem n s → node_code (kind n) (d.under n) ≡ node_code (kind₂ (f n)) (e.under (f n))
+  node_alike d e r n m = collapse_canonical (p_cons (sym (el n m)) (r.under n m))
 
   under_alike : (d e : TreePeel) → Alike d e → (E F : ℕ → Bool) → ((n : ℕ) → Mem n s → F (f n) ≡ E n) → (n : ℕ) → Mem n s
-      → Perm (strings (gather elem d.under (to_ends E n (arcs d.left)) (d.under n))) (strings (gather elem₂ e.under (to_ends F (f n) (arcs e.left)) (e.under (f n))))
+      → Perm (strings (gather kind d.under (to_ends E n (arcs d.left)) (d.under n))) (strings (gather kind₂ e.under (to_ends F (f n) (arcs e.left)) (e.under (f n))))
   under_alike d e r E F same n m =
-      let G : Bond → List ℕ = λ x. x.code ∷ node_code (elem x.v) (d.under x.v) in
-      let H : Bond → List ℕ = λ x. x.code ∷ node_code (elem₂ x.v) (e.under x.v) in
+      let G : Bond → List ℕ = λ x. x.code ∷ node_code (kind x.v) (d.under x.v) in
+      let H : Bond → List ℕ = λ x. x.code ∷ node_code (kind₂ x.v) (e.under x.v) in
       let p : Bond → Bool = λ x. both (eqb x.u n) (E x.v) in
       let q : Bond → Bool = λ x. both (eqb x.u (f n)) (F x.v) in
       let sel : filter q (map (on_bond f) (arcs d.left)) ≡ map (on_bond f) (filter p (arcs d.left)) =
@@ -167,9 +167,9 @@ module _ (s : List ℕ) (f elem elem₂ : ℕ → ℕ) (inj : (a b : ℕ) → Me
       map_agree G (λ (x : Bond). H (on_bond f x)) (filter p (arcs d.left)) (λ x k. ap (λ (l : List ℕ). x.code ∷ l) (node_alike d e r x.v (r.ends x (keep_mem p (arcs d.left) k).0).1)) ∙ sym (map-map H (on_bond f) (filter p (arcs d.left))) in
       let handed : Perm (map G (filter p (arcs d.left))) (map H (filter q (arcs e.left))) =
       p_trans (perm_eq (agree ∙ ap (map H) (sym sel))) (perm_map H (keep_perm q r.left)) in
-      rw (gather_strings elem d.under (filter p (arcs d.left)) (d.under n), gather_strings elem₂ e.under (filter q (arcs e.left)) (e.under (f n))) (perm_append handed (r.under n m))
+      rw (gather_strings kind d.under (filter p (arcs d.left)) (d.under n), gather_strings kind₂ e.under (filter q (arcs e.left)) (e.under (f n))) (perm_append handed (r.under n m))
 
-  round_alike : (d e : TreePeel) → Alike d e → Alike (tree_round elem d) (tree_round elem₂ e)
+  round_alike : (d e : TreePeel) → Alike d e → Alike (tree_round kind d) (tree_round kind₂ e)
   round_alike d e r =
       let E : ℕ → Bool = end_atom (arcs d.left) in
       let F : ℕ → Bool = end_atom (arcs e.left) in
@@ -186,45 +186,45 @@ module _ (s : List ℕ) (f elem elem₂ : ℕ → ℕ) (inj : (a b : ℕ) → Me
         ends = λ x m. r.ends x (keep_mem p (arcs d.left) (rw ap_keep at m)).0;
       }
 
-  settle_alike : (k : ℕ) (d e : TreePeel) → Alike d e → Alike (tree_peel elem k d) (tree_peel elem₂ k e)
+  settle_alike : (k : ℕ) (d e : TreePeel) → Alike d e → Alike (tree_peel kind k d) (tree_peel kind₂ k e)
   unfolding tree_peel
   settle_alike zero d e r = r
-  settle_alike (suc k) d e r = go (two (more d.present)) (settle_alike k (tree_round elem d) (tree_round elem₂ e) (round_alike d e r))
+  settle_alike (suc k) d e r = go (two (more d.present)) (settle_alike k (tree_round kind d) (tree_round kind₂ e) (round_alike d e r))
     where
       same : more d.present ≡ more e.present
       same = more_same d.present e.present (sym (length-map d.present f) ∙ perm_length r.present)
 
-      go : (more d.present ≡ true) ⊎ (more d.present ≡ false) → Alike (tree_peel elem k (tree_round elem d)) (tree_peel elem₂ k (tree_round elem₂ e)) → Alike (tree_peel elem (suc k) d) (tree_peel elem₂ (suc k) e)
-      go (inl h) i = rw (settle_more elem k d h, settle_more elem₂ k e (sym same ∙ h)) i
-      go (inr h) i = rw (settle_stop elem k d h, settle_stop elem₂ k e (sym same ∙ h)) r
+      go : (more d.present ≡ true) ⊎ (more d.present ≡ false) → Alike (tree_peel kind k (tree_round kind d)) (tree_peel kind₂ k (tree_round kind₂ e)) → Alike (tree_peel kind (suc k) d) (tree_peel kind₂ (suc k) e)
+      go (inl h) i = rw (settle_more kind k d h, settle_more kind₂ k e (sym same ∙ h)) i
+      go (inr h) i = rw (settle_stop kind k d h, settle_stop kind₂ k e (sym same ∙ h)) r
 
-  last_two_alike : (d e : TreePeel) → Alike d e → (bs cs : List Bond) → Perm (map (on_bond f) (arcs bs)) (arcs cs) → ((x : Bond) → Mem x (arcs bs) → Mem x.u s × Mem x.v s) → tree_two elem bs d ≡ tree_two elem₂ cs e
+  last_two_alike : (d e : TreePeel) → Alike d e → (bs cs : List Bond) → Perm (map (on_bond f) (arcs bs)) (arcs cs) → ((x : Bond) → Mem x (arcs bs) → Mem x.u s × Mem x.v s) → tree_two kind bs d ≡ tree_two kind₂ cs e
   unfolding two_code
   last_two_alike d e r [] [] p i = refl
   last_two_alike d e r [] (c ∷ cs) p i = absurd (omega (arith, perm_length p))
   last_two_alike d e r (b ∷ bs) [] p i = absurd (omega (arith, perm_length p))
   last_two_alike d e r (b ∷ []) (c ∷ []) p i = go (perm_two p)
     where
-      left : node_code (elem b.u) (d.under b.u) ≡ node_code (elem₂ (f b.u)) (e.under (f b.u))
+      left : node_code (kind b.u) (d.under b.u) ≡ node_code (kind₂ (f b.u)) (e.under (f b.u))
       left = node_alike d e r b.u (i b (m_head refl)).0
 
-      right : node_code (elem b.v) (d.under b.v) ≡ node_code (elem₂ (f b.v)) (e.under (f b.v))
+      right : node_code (kind b.v) (d.under b.v) ≡ node_code (kind₂ (f b.v)) (e.under (f b.v))
       right = node_alike d e r b.v (i b (m_head refl)).1
 
-      go : ((on_bond f b ≡ c) × (on_bond f (turn b) ≡ turn c)) ⊎ ((on_bond f b ≡ turn c) × (on_bond f (turn b) ≡ c)) → tree_two elem (b ∷ []) d ≡ tree_two elem₂ (c ∷ []) e
-      go (inl h) = subst (λ (z : Bond). tree_two elem (b ∷ []) d ≡ tree_two elem₂ (z ∷ []) e) h.0 (ap (λ (l : List ℕ). b.code ∷ l) (collapse_canonical (p_cons left (p_cons right p_nil))))
-      go (inr h) = subst (λ (z : Bond). tree_two elem (b ∷ []) d ≡ tree_two elem₂ (z ∷ []) e) h.1 (ap (λ (l : List ℕ). b.code ∷ l) (collapse_canonical (p_swap left right)))
+      go : ((on_bond f b ≡ c) × (on_bond f (turn b) ≡ turn c)) ⊎ ((on_bond f b ≡ turn c) × (on_bond f (turn b) ≡ c)) → tree_two kind (b ∷ []) d ≡ tree_two kind₂ (c ∷ []) e
+      go (inl h) = subst (λ (z : Bond). tree_two kind (b ∷ []) d ≡ tree_two kind₂ (z ∷ []) e) h.0 (ap (λ (l : List ℕ). b.code ∷ l) (collapse_canonical (p_cons left (p_cons right p_nil))))
+      go (inr h) = subst (λ (z : Bond). tree_two kind (b ∷ []) d ≡ tree_two kind₂ (z ∷ []) e) h.1 (ap (λ (l : List ℕ). b.code ∷ l) (collapse_canonical (p_swap left right)))
   last_two_alike d e r (b ∷ []) (c ∷ c₂ ∷ cs) p i = absurd (omega (arith, perm_length p))
   last_two_alike d e r (b ∷ b₂ ∷ bs) (c ∷ []) p i = absurd (omega (arith, perm_length p))
   last_two_alike d e r (b ∷ b₂ ∷ bs) (c ∷ c₂ ∷ cs) p i = refl
 
-  last_alike : (d e : TreePeel) → Alike d e → (k l : List ℕ) → Perm (map f k) l → ((n : ℕ) → Mem n k → Mem n s) → tree_last elem k d ≡ tree_last elem₂ l e
+  last_alike : (d e : TreePeel) → Alike d e → (k l : List ℕ) → Perm (map f k) l → ((n : ℕ) → Mem n k → Mem n s) → tree_last kind k d ≡ tree_last kind₂ l e
   last_alike d e r [] [] p i = refl
   last_alike d e r [] (x ∷ l) p i = absurd (omega (arith, perm_length p))
   last_alike d e r (x ∷ k) [] p i = absurd (omega (arith, perm_length p))
   last_alike d e r (x ∷ []) (y ∷ []) p i = let (z, o, q) = perm_cons p in go o
     where
-      go : {z : List ℕ} → Out (f x) (y ∷ []) z → tree_last elem (x ∷ []) d ≡ tree_last elem₂ (y ∷ []) e
+      go : {z : List ℕ} → Out (f x) (y ∷ []) z → tree_last kind (x ∷ []) d ≡ tree_last kind₂ (y ∷ []) e
       go (first h) = rw (sym h) (node_alike d e r x (i x (m_head refl)))
       go (later o) = elim o [ ]
   last_alike d e r (x ∷ []) (y ∷ z ∷ l) p i = absurd (omega (arith, perm_length p))
@@ -234,7 +234,7 @@ module _ (s : List ℕ) (f elem elem₂ : ℕ → ℕ) (inj : (a b : ℕ) → Me
   last_alike d e r (x ∷ w ∷ v ∷ k) (y ∷ z ∷ []) p i = absurd (omega (arith, perm_length p))
   last_alike d e r (x ∷ w ∷ v ∷ k) (y ∷ z ∷ t ∷ l) p i = refl
 
-  finish_alike : (d e : TreePeel) → Alike d e → tree_finish elem d ≡ tree_finish elem₂ e
+  finish_alike : (d e : TreePeel) → Alike d e → tree_finish kind d ≡ tree_finish kind₂ e
   finish_alike d e r = last_alike d e r d.present e.present r.present r.inside
 
 -- isomorphic fragments have equal labels, of whatever shape
@@ -242,8 +242,8 @@ pub label_of_joined : (a b : Frag) → FormedFrag a → FormedFrag b → Joined 
 unfolding tree_label strings
 label_of_joined a b g h j =
     let inj : (m n : ℕ) → Mem m a.atoms → Mem n a.atoms → j.f m ≡ j.f n → m ≡ n = λ m n p q e. map_distinct j.f (distinct_perm (perm_sym j.onto) h.distinct) p q e in
-    let r : Alike a.atoms j.f a.elem b.elem inj j.elems (tree_start a) (tree_start b) =
+    let r : Alike a.atoms j.f a.kind b.kind inj j.kinds (tree_start a) (tree_start b) =
     record { present = j.onto; left = j.bonds; under = λ n m. p_nil; inside = λ n m. m; ends = g.ends } in
     let same : length a.atoms ≡ length b.atoms = sym (length-map a.atoms j.f) ∙ perm_length j.onto in
-    rw (← same) (finish_alike a.atoms j.f a.elem b.elem inj j.elems (tree_peel a.elem (length a.atoms) (tree_start a)) (tree_peel b.elem (length a.atoms) (tree_start b))
-    (settle_alike a.atoms j.f a.elem b.elem inj j.elems (length a.atoms) (tree_start a) (tree_start b) r))
+    rw (← same) (finish_alike a.atoms j.f a.kind b.kind inj j.kinds (tree_peel a.kind (length a.atoms) (tree_start a)) (tree_peel b.kind (length a.atoms) (tree_start b))
+    (settle_alike a.atoms j.f a.kind b.kind inj j.kinds (length a.atoms) (tree_start a) (tree_start b) r))

@@ -108,7 +108,7 @@ pub record Isomorphism (a b : Frag) : Type 0 where
   pub into : (n : ℕ) → Mem n a.atoms → Mem (f n) b.atoms
   pub onto : (m : ℕ) → Mem m b.atoms → (n : ℕ) × Mem n a.atoms × (f n ≡ m)
   pub one_one : (m n : ℕ) → Mem m a.atoms → Mem n a.atoms → f m ≡ f n → m ≡ n
-  pub elems : (n : ℕ) → Mem n a.atoms → b.elem (f n) ≡ a.elem n
+  pub kinds : (n : ℕ) → Mem n a.atoms → b.kind (f n) ≡ a.kind n
   pub bonds : (p q c : ℕ) → Mem p a.atoms → Mem q a.atoms → Mem (arc p q c) (arcs a.bonds) ↔ Mem (arc (f p) (f q) c) (arcs b.bonds)
 
 bond_path : (x y : Bond) → x.u ≡ y.u → x.v ≡ y.v → x.code ≡ y.code → x ≡ y
@@ -120,7 +120,7 @@ isomorphism_of_joined a b k l j = record {
   into = λ n m. perm_mem j.onto (mem_map j.f m);
   onto = λ m i. mem_of_map j.f a.atoms (perm_mem (perm_sym j.onto) i);
   one_one = λ m n p q. joined_injective a b j l.tree.distinct p q;
-  elems = j.elems;
+  kinds = j.kinds;
   bonds = λ p q c i h. (λ m. joined_arc a b j (arc p q c) m, back p q c i h);
 }
   where
@@ -134,7 +134,7 @@ pub joined_of_isomorphism : (a b : Frag) → Clean a → Clean b → Isomorphism
 joined_of_isomorphism a b k l i = record {
   f = i.f;
   onto = distinct_same (map i.f a.atoms) b.atoms (distinct_image i.f a.atoms i.one_one k.tree.distinct) l.tree.distinct down up;
-  elems = i.elems;
+  kinds = i.kinds;
   bonds = distinct_same (map (on_bond i.f) (arcs a.bonds)) (arcs b.bonds) (distinct_image (on_bond i.f) (arcs a.bonds) same (tree_arcs a.atoms a.bonds k.tree)) (tree_arcs b.atoms b.bonds l.tree) arc_down arc_up;
 }
   where
@@ -170,7 +170,7 @@ label_isomorphism a b k l =
     (λ e. isomorphism_of_joined a b k l ((label_iff a b k l).0 (label_document a ∙ e ∙ sym (label_document b))), λ i. sym (label_document a) ∙ (label_iff a b k l).1 (joined_of_isomorphism a b k l i) ∙ label_document b)
 
 -- for sets of bond numbers of an accepted record
-pub fragment_clean : (a n : ℕ) (elem : ℕ → ℕ) (bond : ℕ → Bond) → Accepted a n elem bond → (p : ℕ → Bool) → ConnectedBonds (map bond (filter p (numbers_from 0 n))) → Clean (fragment a n elem bond p)
-fragment_clean a n elem bond r p c =
-    piece_clean (molecule a n elem bond) (accepted_clean a n elem bond r) (touched_by (map bond (filter p (numbers_from 0 n))) (numbers_from 0 a)) (map bond (filter p (numbers_from 0 n)))
-    (piece_of (molecule a n elem bond) (accepted_clean a n elem bond r) (map bond (filter p (numbers_from 0 n))) (map bond (filter (λ i. not (p i)) (numbers_from 0 n))) (chosen_by bond (numbers_from 0 n) p) c)
+pub fragment_clean : (a n : ℕ) (kind : ℕ → List ℕ) (bond : ℕ → Bond) → Accepted a n kind bond → (p : ℕ → Bool) → ConnectedBonds (map bond (filter p (numbers_from 0 n))) → Clean (fragment a n kind bond p)
+fragment_clean a n kind bond r p c =
+    piece_clean (molecule a n kind bond) (accepted_clean a n kind bond r) (touched_by (map bond (filter p (numbers_from 0 n))) (numbers_from 0 a)) (map bond (filter p (numbers_from 0 n)))
+    (piece_of (molecule a n kind bond) (accepted_clean a n kind bond r) (map bond (filter p (numbers_from 0 n))) (map bond (filter (λ i. not (p i)) (numbers_from 0 n))) (chosen_by bond (numbers_from 0 n) p) c)

@@ -37,12 +37,12 @@ bond_slot r ok h = omega (arith, (accepted_formed r ok).sized.few)
 pub record Begun (slate : Bytes) (k start : ℕ) (x : Bytes) (end : ℕ) (now : Bytes) : Type 0 where
   pub serves : Slots slate
   pub within : k < 66
-  pub at : start ≡ 391 * k + 2
-  pub short : length x ≤ 389
+  pub at : start ≡ 456 * k + 2
+  pub short : length x ≤ 454
   pub wrote : Wrote slate start x end now
 
 -- the same from its parts
-pub begun : {slate : Bytes} {k start : ℕ} {x : Bytes} {end : ℕ} {now : Bytes} → Slots slate → k < 66 → start ≡ 391 * k + 2 → length x ≤ 389
+pub begun : {slate : Bytes} {k start : ℕ} {x : Bytes} {end : ℕ} {now : Bytes} → Slots slate → k < 66 → start ≡ 456 * k + 2 → length x ≤ 454
     → Wrote slate start x end now → Begun slate k start x end now
 begun s h e l w = record { serves = s; within = h; at = e; short = l; wrote = w }
 
@@ -62,10 +62,10 @@ module _ {slate : Bytes} {k start : ℕ} {x : Bytes} {end : ℕ} {now : Bytes} (
   pub begun_length : length now ≡ length slate
   begun_length = wrote_length w.wrote room
 
-  pub begun_short : (start ≤ end) × (end - start ≤ 389)
+  pub begun_short : (start ≤ end) × (end - start ≤ 454)
   begun_short = (omega (arith, w.wrote.place), omega (arith, w.wrote.place, w.short))
 
-  pub begun_placed : {then : Bytes} → SlotIs now k (take (end - start) (drop (391 * k + 2) now)) then → SlotIs slate k x then
+  pub begun_placed : {then : Bytes} → SlotIs now k (take (end - start) (drop (456 * k + 2) now)) then → SlotIs slate k x then
   begun_placed z = record {
     serves = z.serves;
     this = z.this ∙ rw (← w.at) (wrote_read w.wrote room);
@@ -100,13 +100,13 @@ pub record Hands (r : Bytes) (s L i v : ℕ) (slate : Bytes) (start b : ℕ) : T
   pub serves : Slots slate
   pub left : bit L i ≡ 1
   pub small : i < 64
-  pub at : start ≡ 391 * i + 2
+  pub at : start ≡ 456 * i + 2
   pub is : b ≡ code r i
-  pub fits : length (handed r s L (slot slate) i v) ≤ 389
+  pub fits : length (handed r s L (slot slate) i v) ≤ 454
 
 -- the same from its parts
-pub hands : {r : Bytes} {s L i v : ℕ} {slate : Bytes} {start b : ℕ} → Slots slate → bit L i ≡ 1 → i < 64 → start ≡ 391 * i + 2 → b ≡ code r i
-    → length (handed r s L (slot slate) i v) ≤ 389 → Hands r s L i v slate start b
+pub hands : {r : Bytes} {s L i v : ℕ} {slate : Bytes} {start b : ℕ} → Slots slate → bit L i ≡ 1 → i < 64 → start ≡ 456 * i + 2 → b ≡ code r i
+    → length (handed r s L (slot slate) i v) ≤ 454 → Hands r s L i v slate start b
 hands w h l e c f = record { serves = w; left = h; small = l; at = e; is = c; fits = f }
 
 module _ {r : Bytes} {s L i v : ℕ} {slate : Bytes} {start b : ℕ} (h : Hands r s L i v slate start b) where
@@ -144,7 +144,7 @@ module _ {r : Bytes} {s L i v : ℕ} {slate : Bytes} {start b : ℕ} (h : Hands 
 
 -- ---- one atom is left: its strings go to slot k
 
-pub centre_room : (r : Bytes) (s L v k start n : ℕ) → s < 2 ^ 64 → 64 ≤ k → k < 66 → start ≡ 391 * k + 2 → n ≤ 389 → FreeSlot (received r s L v) start n
+pub centre_room : (r : Bytes) (s L v k start n : ℕ) → s < 2 ^ 64 → 64 ≤ k → k < 66 → start ≡ 456 * k + 2 → n ≤ 454 → FreeSlot (received r s L v) start n
 centre_room r s L v k start n low high within at short = record {
   slot = k;
   inside = record { within = within; from = omega arith; to = omega arith };
@@ -162,12 +162,12 @@ pub record OuterEnds (r : Bytes) (s L i k : ℕ) (slate : Bytes) (from : ℕ) : 
   pub small : i < 64
   pub high : 64 ≤ k
   pub within : k < 66
-  pub at : from ≡ 391 * i + 2
-  pub fits : length (centres r s L (slot slate) i) ≤ 389
+  pub at : from ≡ 456 * i + 2
+  pub fits : length (centres r s L (slot slate) i) ≤ 454
 
 -- the same from its parts
-pub outer_ends : {r : Bytes} {s L i k : ℕ} {slate : Bytes} {from : ℕ} → Slots slate → bit L i ≡ 1 → i < 64 → 64 ≤ k → k < 66 → from ≡ 391 * i + 2
-    → length (centres r s L (slot slate) i) ≤ 389 → OuterEnds r s L i k slate from
+pub outer_ends : {r : Bytes} {s L i k : ℕ} {slate : Bytes} {from : ℕ} → Slots slate → bit L i ≡ 1 → i < 64 → 64 ≤ k → k < 66 → from ≡ 456 * i + 2
+    → length (centres r s L (slot slate) i) ≤ 454 → OuterEnds r s L i k slate from
 outer_ends w h l a b e f = record { serves = w; left = h; small = l; high = a; within = b; at = e; fits = f }
 
 module _ {r : Bytes} {s L i k : ℕ} {slate : Bytes} {from : ℕ} (h : OuterEnds r s L i k slate from) where
@@ -180,11 +180,11 @@ module _ {r : Bytes} {s L i k : ℕ} {slate : Bytes} {from : ℕ} (h : OuterEnds
   abbrev two : Bytes
   two = string (end_b r i)
 
-  both_short : length one + length two ≤ 384
+  both_short : length one + length two ≤ 449
   both_short = omega (arith, length_collapse_two one two, h.fits)
 
   -- a string that goes to slot i
-  placed : {x : Bytes} {end : ℕ} {now : Bytes} → length x ≤ 384 → Wrote slate from x end now → Begun slate i from x end now
+  placed : {x : Bytes} {end : ℕ} {now : Bytes} → length x ≤ 449 → Wrote slate from x end now → Begun slate i from x end now
   placed l w = begun h.serves (omega (arith, h.small)) h.at (omega arith) w
 
   pub first_room : FreeSlot (received r s L (end_a r i)) from (length one)
@@ -218,8 +218,8 @@ module _ {r : Bytes} {s L i k : ℕ} {slate : Bytes} {from : ℕ} (h : OuterEnds
       pair : Begun slate i from (one ++ two) end both
       pair = placed (omega (arith, length-append one two, both_short)) (wrote_then w next (omega (arith, both_short, h.serves.wide, h.at, h.small)))
 
-      -- where they stand: before slot k, in 384 bytes
-      pub ends_places : (from ≤ middle) × (middle ≤ end) × (end ≤ 391 * k) × (end - from ≤ 384)
+      -- where they stand: before slot k, in 449 bytes
+      pub ends_places : (from ≤ middle) × (middle ≤ end) × (end ≤ 456 * k) × (end - from ≤ 449)
       ends_places = (
         omega (arith, w.place),
         omega (arith, next.place),
@@ -227,10 +227,10 @@ module _ {r : Bytes} {s L i k : ℕ} {slate : Bytes} {from : ℕ} (h : OuterEnds
         omega (arith, w.place, next.place, both_short),
       )
 
-      pub ends_wide : length both ≡ 25806
+      pub ends_wide : length both ≡ 30096
       ends_wide = (begun_serves pair).wide
 
-      module _ {start b : ℕ} (to : start ≡ 391 * k + 2) (is : b ≡ code r i) where
+      module _ {start b : ℕ} (to : start ≡ 456 * k + 2) (is : b ≡ code r i) where
         coded : Wrote both start (code r i ∷ []) (start + 1) (set both start b)
         coded = rw (← is) (wrote_byte both start b (omega (arith, ends_wide, h.within)))
 
@@ -259,7 +259,7 @@ module _ {r : Bytes} {s L i k : ℕ} {slate : Bytes} {from : ℕ} (h : OuterEnds
         }
 
         pub centres_label : {last : ℕ} {now done : Bytes} → Begun both k start (centres r s L (slot slate) i) last now
-            → SlotIs now k (take (last - start) (drop (391 * k + 2) now)) done
+            → SlotIs now k (take (last - start) (drop (456 * k + 2) now)) done
             → LabelAt slate k (centres r s L (slot slate) i) done
         centres_label u z =
             let p = begun_placed u z in

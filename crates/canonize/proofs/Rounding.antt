@@ -75,7 +75,7 @@ module _ {r : Bytes} {s L : ℕ} {old : Bytes} {rest taken : ℕ} {now : Bytes} 
     handed_same v = ap (λ x. code r i ∷ collapse x) (strings_same r s L (slot old) (slot now) (λ j _ k. w.before j k) v)
 
     -- it fits
-    pub handed_fits : Own r L → Fits r s L (slot old) → has_tip r L i ≡ true → length (handed r s L (slot now) i (tip r L i)) ≤ 389
+    pub handed_fits : Own r L → Fits r s L (slot old) → has_tip r L i ≡ true → length (handed r s L (slot now) i (tip r L i)) ≤ 454
     handed_fits o f t = omega (arith, ap length (handed_same (tip r L i)), f i (outer_has r L i o next_left t))
 
     -- it has an end atom, and has handed over

@@ -295,38 +295,38 @@ module _ (ns : List ℕ) (bs : List Bond) (t : Treelike ns bs) (m : more ns ≡ 
 abbrev pub below : (ℕ → Kids) → ℕ → List Item
 below T n = items n (T n)
 
-abbrev pub to_item : (ℕ → ℕ) → Bond → Item
-to_item elem x = item x.u x.code x.v (elem x.v)
+abbrev pub to_item : (ℕ → List ℕ) → Bond → Item
+to_item kind x = item x.u x.code x.v (kind x.v)
 
 abbrev pub to_bond : Item → Bond
 to_bond i = record { u = i.up; v = i.atom; code = i.bond }
 
-gather_items : (elem : ℕ → ℕ) (T : ℕ → Kids) (n : ℕ) (xs : List Bond) (k : Kids) → items n (gather elem T xs k) ≡ flat (λ x. item n x.code x.v (elem x.v) ∷ below T x.v) xs ++ items n k
-gather_items elem T n [] k = refl
-gather_items elem T n (x ∷ xs) k =
-    ap (λ (z : List Item). item n x.code x.v (elem x.v) ∷ (below T x.v ++ z)) (gather_items elem T n xs k)
-    ∙ ap (λ (z : List Item). item n x.code x.v (elem x.v) ∷ z) (sym (append_assoc (below T x.v) (flat (λ x. item n x.code x.v (elem x.v) ∷ below T x.v) xs) (items n k)))
+gather_items : (kind : ℕ → List ℕ) (T : ℕ → Kids) (n : ℕ) (xs : List Bond) (k : Kids) → items n (gather kind T xs k) ≡ flat (λ x. item n x.code x.v (kind x.v) ∷ below T x.v) xs ++ items n k
+gather_items kind T n [] k = refl
+gather_items kind T n (x ∷ xs) k =
+    ap (λ (z : List Item). item n x.code x.v (kind x.v) ∷ (below T x.v ++ z)) (gather_items kind T n xs k)
+    ∙ ap (λ (z : List Item). item n x.code x.v (kind x.v) ∷ z) (sym (append_assoc (below T x.v) (flat (λ x. item n x.code x.v (kind x.v) ∷ below T x.v) xs) (items n k)))
 
-module _ (ns : List ℕ) (bs : List Bond) (t : Treelike ns bs) (m : more ns ≡ true) (elem : ℕ → ℕ) (T : ℕ → Kids) where
-  pub round_items : Perm (flat (below (λ n. gather elem T (to_ends (end_atom (arcs bs)) n (arcs bs)) (T n))) (filter (λ (n : ℕ). not (end_atom (arcs bs) n)) ns)) (map (to_item elem) (going (end_atom (arcs bs)) bs) ++ flat (below T) ns)
+module _ (ns : List ℕ) (bs : List Bond) (t : Treelike ns bs) (m : more ns ≡ true) (kind : ℕ → List ℕ) (T : ℕ → Kids) where
+  pub round_items : Perm (flat (below (λ n. gather kind T (to_ends (end_atom (arcs bs)) n (arcs bs)) (T n))) (filter (λ (n : ℕ). not (end_atom (arcs bs) n)) ns)) (map (to_item kind) (going (end_atom (arcs bs)) bs) ++ flat (below T) ns)
   round_items =
       let E : ℕ → Bool = end_atom (arcs bs) in
       let X : List Bond = going E bs in
       let stays : List ℕ = filter (λ (n : ℕ). not (E n)) ns in
-      let J : Bond → List Item = λ x. to_item elem x ∷ below T x.v in
-      let a₁ : Perm (flat (below (λ n. gather elem T (to_ends E n (arcs bs)) (T n))) stays) (flat (λ n. flat J (to_ends E n (arcs bs)) ++ below T n) stays) =
-      flat_agree (below (λ n. gather elem T (to_ends E n (arcs bs)) (T n))) (λ n. flat J (to_ends E n (arcs bs)) ++ below T n) stays (λ n i. at n) in
+      let J : Bond → List Item = λ x. to_item kind x ∷ below T x.v in
+      let a₁ : Perm (flat (below (λ n. gather kind T (to_ends E n (arcs bs)) (T n))) stays) (flat (λ n. flat J (to_ends E n (arcs bs)) ++ below T n) stays) =
+      flat_agree (below (λ n. gather kind T (to_ends E n (arcs bs)) (T n))) (λ n. flat J (to_ends E n (arcs bs)) ++ below T n) stays (λ n i. at n) in
       let a₂ : Perm (flat (λ n. flat J (to_ends E n (arcs bs)) ++ below T n) stays) (flat (λ n. flat J (to_ends E n (arcs bs))) stays ++ flat (below T) stays) =
       flat_split (λ n. flat J (to_ends E n (arcs bs))) (below T) stays in
       let a₃ : Perm (flat (λ n. flat J (to_ends E n (arcs bs))) stays) (flat J X) =
       p_trans (perm_eq (sym (flat_flat J (λ n. to_ends E n (arcs bs)) stays))) (flat_perm J (p_trans (flat_agree (λ n. to_ends E n (arcs bs)) (λ n. filter (λ (x : Bond). eqb x.u n) X) stays (λ n i. perm_eq (keep_both (λ (x : Bond). eqb x.u n) (λ (x : Bond). E x.v) (arcs bs))))
       (group (λ (x : Bond). x.u) stays X (keep_distinct (λ (n : ℕ). not (E n)) ns t.distinct) from))) in
-      let a₄ : Perm (flat J X) (map (to_item elem) X ++ flat (below T) (filter E ns)) =
-      p_trans (flat_split (λ x. to_item elem x ∷ []) (λ x. below T x.v) X) (perm_append (perm_eq (flat_single (to_item elem) X)) (p_trans (perm_eq (sym (flat_map (below T) (λ (x : Bond). x.v) X))) (flat_perm (below T) (perm_sym (ends_going ns bs t m))))) in
+      let a₄ : Perm (flat J X) (map (to_item kind) X ++ flat (below T) (filter E ns)) =
+      p_trans (flat_split (λ x. to_item kind x ∷ []) (λ x. below T x.v) X) (perm_append (perm_eq (flat_single (to_item kind) X)) (p_trans (perm_eq (sym (flat_map (below T) (λ (x : Bond). x.v) X))) (flat_perm (below T) (perm_sym (ends_going ns bs t m))))) in
       let a₅ : Perm (flat (below T) ns) (flat (below T) (filter E ns) ++ flat (below T) stays) =
       p_trans (flat_perm (below T) (keep_split E ns)) (p_trans (perm_eq (flat_append (below T) stays (filter E ns))) (perm_comm (flat (below T) stays) (flat (below T) (filter E ns)))) in
       p_trans a₁ (p_trans a₂ (p_trans (perm_right (flat (below T) stays) (p_trans a₃ a₄))
-      (p_trans (perm_eq (append_assoc (map (to_item elem) X) (flat (below T) (filter E ns)) (flat (below T) stays))) (perm_left (map (to_item elem) X) (perm_sym a₅)))))
+      (p_trans (perm_eq (append_assoc (map (to_item kind) X) (flat (below T) (filter E ns)) (flat (below T) stays))) (perm_left (map (to_item kind) X) (perm_sym a₅)))))
     where
       perm_comm : (k l : List Item) → Perm (k ++ l) (l ++ k)
       perm_comm k l = p_trans (perm_left k (perm_eq (sym (append-nil l)))) (p_trans (perm_exchange k l []) (perm_left l (perm_eq (append-nil k))))
@@ -340,6 +340,6 @@ module _ (ns : List ℕ) (bs : List Bond) (t : Treelike ns bs) (m : more ns ≡ 
           no_end true f = absurd (f refl)
           no_end false f = refl
 
-      at : (n : ℕ) → Perm (items n (gather elem T (to_ends (end_atom (arcs bs)) n (arcs bs)) (T n))) (flat (λ x. to_item elem x ∷ below T x.v) (to_ends (end_atom (arcs bs)) n (arcs bs)) ++ below T n)
-      at n = p_trans (perm_eq (gather_items elem T n (to_ends (end_atom (arcs bs)) n (arcs bs)) (T n))) (perm_right (below T n) (flat_agree (λ x. item n x.code x.v (elem x.v) ∷ below T x.v) (λ x. to_item elem x ∷ below T x.v) (to_ends (end_atom (arcs bs)) n (arcs bs))
-          (λ x i. p_cons (ap (λ (k : ℕ). item k x.code x.v (elem x.v)) (sym (eqb-true x.u n (and_true (eqb x.u n) (end_atom (arcs bs) x.v) (keep_mem (λ (x : Bond). both (eqb x.u n) (end_atom (arcs bs) x.v)) (arcs bs) i).1).0))) (perm_refl (below T x.v)))))
+      at : (n : ℕ) → Perm (items n (gather kind T (to_ends (end_atom (arcs bs)) n (arcs bs)) (T n))) (flat (λ x. to_item kind x ∷ below T x.v) (to_ends (end_atom (arcs bs)) n (arcs bs)) ++ below T n)
+      at n = p_trans (perm_eq (gather_items kind T n (to_ends (end_atom (arcs bs)) n (arcs bs)) (T n))) (perm_right (below T n) (flat_agree (λ x. item n x.code x.v (kind x.v) ∷ below T x.v) (λ x. to_item kind x ∷ below T x.v) (to_ends (end_atom (arcs bs)) n (arcs bs))
+          (λ x i. p_cons (ap (λ (k : ℕ). item k x.code x.v (kind x.v)) (sym (eqb-true x.u n (and_true (eqb x.u n) (end_atom (arcs bs) x.v) (keep_mem (λ (x : Bond). both (eqb x.u n) (end_atom (arcs bs) x.v)) (arcs bs) i).1).0))) (perm_refl (below T x.v)))))

@@ -64,12 +64,9 @@ module _ (X : ℕ → Bytes) (s : ℕ) where
   pub sort_out : (i : ℕ) → Least X s i → sort (map X (members s)) ≡ X i ∷ sort (map X (members (diff s (2 ^ i))))
   sort_out i l = sort_least (perm_map X (members_out s i l.member)) (each (λ y. lex_le (X i) y ≡ true) (diff s (2 ^ i)) (λ j h. l.first j (omega (arith, bit_diff s (2 ^ i) j, bit_le s j))))
 
-  pub sort_split : (e t : ℕ) → After X s e t → sort ((e ∷ []) ∷ map X (members s)) ≡ sort (map X (members (diff s t))) ++ ((e ∷ []) ∷ sort (map X (members t)))
-  sort_split e t a = sort_canonical parts ∙ sort_append lower (own ∷ upper) leads ∙ ap (λ (l : List Bytes). sort lower ++ l) (sort_least (perm_refl (own ∷ upper)) after)
+  pub sort_split : (own : Bytes) (t : ℕ) → After X s own t → sort (own ∷ map X (members s)) ≡ sort (map X (members (diff s t))) ++ (own ∷ sort (map X (members t)))
+  sort_split own t a = sort_canonical parts ∙ sort_append lower (own ∷ upper) leads ∙ ap (λ (l : List Bytes). sort lower ++ l) (sort_least (perm_refl (own ∷ upper)) after)
     where
-      own : Bytes
-      own = e ∷ []
-
       lower : List Bytes
       lower = map X (members (diff s t))
 

@@ -3,6 +3,7 @@ use borrow.Author.Tests.{eqb-true, le-ltb, lt-ltb, not-true}
 use mathlib.Core.Path.{◌≡◌, refl, sym, ap, ap₂, ◌∙◌}
 use mathlib.Core.Logic.{◌⊎◌, inl, inr, ◌≢◌, ⊎_elim}
 use mathlib.Core.Bool.{Bool, true, false, not, ◌&&◌, ◌||◌}
+use mathlib.Core.List.Memᴰ.{append_left as mem_left}
 use mathlib.Core.List.Memᴰ.{head as m_head}
 use mathlib.Core.List.Memᴰ.{map as mem_map}
 use mathlib.Core.List.Memᴰ.{tail as m_tail}
@@ -21,26 +22,26 @@ use Rattle.bitset.proofs.Bools.{and_true, or_true, or_left, or_right, two}
 use Rattle.bitset.proofs.Laws.{bit_le, bit-and, bit_diff, bit_empty, same, sub_trans, member_lt, size_empty, size_le, members_size, members_done}
 use Rattle.bitset.proofs.Members.{members_bit, bit_members, in_or_out, sub_of, and_in, diff_in, diff_sub, set_of_in, set_of_has}
 use Rattle.molecule.specs.Lists.{Bytes, filter, pick}
-use Rattle.molecule.specs.Record.{bonds, element, end_a, end_b, code}
+use Rattle.molecule.specs.Record.{bonds, end_a, end_b, code}
 use Rattle.molecule.specs.Touch.{bonds_at}
 use Rattle.molecule.specs.Tree.{Formed}
 use Rattle.molecule.specs.Connected.{Own}
 use Rattle.molecule.proofs.Components.{own_sub}
 use Rattle.molecule.proofs.Touching.{at_in, at_has}
 use Rattle.molecule.proofs.SetLists.{only, members_keep, members_less}
-use Rattle.molecule.proofs.Perms.{not_both, perm_append, perm_eq, perm_length, perm_map, map-append, map_agree, keep_mem, keep_intro, keep_map, eqb_yes}
+use Rattle.molecule.proofs.Perms.{not_both, perm_append, perm_eq, perm_length, perm_mem, perm_map, map-append, map_agree, keep_mem, keep_intro, keep_map, eqb_yes}
 use Rattle.molecule.proofs.SetLists.{members_keep, members_less}
 use Rattle.canonize.specs.Strings.{collapse}
-use Rattle.canonize.specs.Fragment.{Bond, Peel, more, turn, arcs, degree, end_atom, to_ends, own_string, start, round, peel, two_left, finish, label_of}
-use Rattle.canonize.specs.Label.{bond_of, bonds_of, fragment, label}
+use Rattle.canonize.specs.Fragment.{Bond, Peel, more, turn, arcs, degree, end_atom, to_ends, start, round, peel, two_left, finish, label_of}
+use Rattle.canonize.specs.Label.{own_string, bond_of, bonds_of, fragment, label}
 use Rattle.canonize.specs.Inner.Words.{is_tip, has_tip, outer, tip, far, received, strings_at}
 use Rattle.canonize.proofs.Wrapping.{collapse_canonical}
-use Rattle.canonize.proofs.RoseTrees.{node_code_length}
+use Rattle.canonize.proofs.RoseTrees.{own_few, node_code_length}
 use Rattle.canonize.proofs.Pairing.{Item, items, items_length}
 use Rattle.canonize.proofs.Sums.{flat}
 use Rattle.canonize.proofs.Peeling.{TreePeel, tree_start, tree_round, arcs_length}
 use Rattle.canonize.proofs.Rounds.{Treelike, stay, arcs_mem, below, to_bond, ends_apart, round_shorter, round_tree}
-use Rattle.canonize.proofs.Hanging.{Clean, Hanging, start_hanging, round_hanging}
+use Rattle.canonize.proofs.Hanging.{fits_good, Clean, Hanging, start_hanging, round_hanging}
 use Rattle.canonize.proofs.OnStrings.{peel_more, peel_stop, Says, says_code, start_says, round_says}
 use Rattle.canonize.proofs.Choose.{more_bonds}
 
@@ -57,7 +58,7 @@ pub record Peeled (r : Bytes) (s L : ℕ) (X : ℕ → Bytes) (z : Peel) : Type 
   pub own : (v : ℕ) → Mem v z.present → Perm (strings_at r s L X v) (z.own v)
   pub trees : TreePeel
   pub held : Hanging (fragment r s) trees
-  pub says : Says (element r) trees z
+  pub says : Says (own_string r) trees z
   pub rest : (f : ℕ) → length z.present ≤ f → label r s ≡ after f z
 
 -- ---- arcs by the numbers of their bonds
@@ -155,7 +156,7 @@ peeled_start {r} {s} c X = record {
   within = and_self s;
   left = refl;
   tree = c.tree;
-  own = λ v m. perm_eq (ap (λ (l : List ℕ). own_string (element r) v ∷ map X l) (members_done (received r s s v) (none v)));
+  own = λ v m. perm_eq (ap (λ (l : List ℕ). own_string r v ∷ map X l) (members_done (received r s s v) (none v)));
   trees = tree_start (fragment r s);
   held = start_hanging (fragment r s) c;
   says = start_says (fragment r s);
@@ -272,16 +273,19 @@ module _ {r : Bytes} {s L : ℕ} {X : ℕ → Bytes} {z : Peel} (p : Peeled r s 
       go true a b = a
       go false a b = b
 
-  -- the strings of a present atom hold the bonds under it, and those are not left
-  pub short : (v : ℕ) → Mem v z.present → length (collapse (strings_at r s L X v)) + 6 * size L ≤ 6 * size s + 3
+  -- the strings of a present atom hold the bonds under it, and those are not left: five bytes for a bond, and at most two of an own string
+  pub short : (v : ℕ) → Mem v z.present → length (collapse (strings_at r s L X v)) + 7 * size L ≤ 7 * size s + 4
   short v m =
       let d : TreePeel = p.trees in
-      let under : length (items v (d.under v)) ≤ length (flat (below d.under) d.present) = flat_at (below d.under) d.present (rw (← p.says.present) at m) in
+      let there : Mem v d.present = rw (← p.says.present) at m in
+      let under : length (items v (d.under v)) ≤ length (flat (below d.under) d.present) = flat_at (below d.under) d.present there in
       omega (
         arith,
         ap length (collapse_canonical (p.own v m)),
-        ap length (says_code (element r) d z p.says v),
-        node_code_length (element r v) (d.under v),
+        ap length (says_code (own_string r) d z p.says v),
+        node_code_length (own_string r v) (d.under v),
+        (p.clean.kinds v (perm_mem p.held.atoms (mem_left (map (λ (i : Item). i.atom) (flat (below d.under) d.present)) there))).short,
+        own_few (d.under v) (fits_good (own_string r) (d.under v) (p.held.fits v)),
         items_length v (d.under v),
         perm_length p.held.bonds,
         arcs_length (d.left ++ map to_bond (flat (below d.under) d.present)),
@@ -310,7 +314,7 @@ module _ (r : Bytes) (s L : ℕ) (X Y : ℕ → Bytes) (kept : (j : ℕ) → bit
   -- an atom's strings are those of the bonds taken off, whatever stands for the others
   pub strings_same : (v : ℕ) → strings_at r s L Y v ≡ strings_at r s L X v
   unfolding strings_at
-  strings_same v = ap (λ (l : List Bytes). own_string (element r) v ∷ l) (received_same v)
+  strings_same v = ap (λ (l : List Bytes). own_string r v ∷ l) (received_same v)
 
   -- an atom's strings after a round: those handed to it, and those from before
   strings_round : Sub L s → (v : ℕ) → Perm (strings_at r s (diff L (outer r L)) Y v) (map Y (members (bit_and (bonds_at r v) (outer r L))) ++ strings_at r s L X v)
@@ -320,7 +324,7 @@ module _ (r : Bytes) (s L : ℕ) (X Y : ℕ → Bytes) (kept : (j : ℕ) → bit
       let old : ℕ = received r s L v in
       let all : Perm (map Y (members (received r s (diff L (outer r L)) v))) (map Y (members now) ++ map X (members old)) =
       p_trans (perm_map Y (members_less (bonds_at r v) s L (outer r L) (outer_sub r L) within)) (perm_eq (map-append Y (members now) (members old) ∙ ap (λ (l : List Bytes). map Y (members now) ++ l) (received_same v))) in
-      p_trans (p_cons refl all) (perm_sym (perm_middle (own_string (element r) v) (map Y (members now)) (map X (members old))))
+      p_trans (p_cons refl all) (perm_sym (perm_middle (own_string r v) (map Y (members now)) (map X (members old))))
 
 module _ {r : Bytes} {s L : ℕ} {X : ℕ → Bytes} {z : Peel} (formed : Formed r) (own_s : Own r s) (p : Peeled r s L X z) (many : 1 < size L) where
   own_left : Own r L
@@ -340,9 +344,9 @@ module _ {r : Bytes} {s L : ℕ} {X : ℕ → Bytes} {z : Peel} (formed : Formed
     left = round_left;
     tree = round_tree z.present z.left p.tree (more_left p many);
     own = own;
-    trees = tree_round (element r) p.trees;
+    trees = tree_round (own_string r) p.trees;
     held = round_hanging (fragment r s) p.trees p.clean p.held (ap more p.says.present ∙ more_left p many);
-    says = round_says (element r) p.trees z p.says;
+    says = round_says (own_string r) p.trees z p.says;
     rest = λ f h.
         let l : length (round z).present < length z.present = round_shorter z.present z.left p.tree (more_left p many) in
         p.rest (suc (length z.present)) (omega arith)
@@ -400,7 +404,7 @@ module _ {r : Bytes} {s L : ℕ} {X : ℕ → Bytes} {z : Peel} (formed : Formed
   centre_present e i h = far_present i (omega (arith, bit_diff L (outer r L) i, ap (λ (x : ℕ). bit x i) e, bit_empty i, bit_le (outer r L) i))
 
   -- a string that is handed over fits
-  pub string_fits : (i : ℕ) → bit (outer r L) i ≡ 1 → length (code r i ∷ collapse (strings_at r s L X (tip r L i))) ≤ 376
+  pub string_fits : (i : ℕ) → bit (outer r L) i ≡ 1 → length (code r i ∷ collapse (strings_at r s L X (tip r L i))) ≤ 439
   string_fits i h = omega (arith, short p (tip r L i) (tip_present p i h), size_le (bonds r) s own_s, formed.sized.few)
 
 -- ---- the end: one atom is left, or two

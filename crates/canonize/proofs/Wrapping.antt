@@ -13,7 +13,7 @@ use native.Mathlib.Omega.{arith}
 use lib.ListN.{length, length-append}
 use mathlib.Core.Bool.{true, false}
 use Rattle.canonize.specs.Strings.{lex_le, collapse, insert, join, sort, wrap}
-use Rattle.canonize.proofs.Sorting.{sort_perm, sort_canonical, perm_of_sort}
+use Rattle.canonize.proofs.Sorting.{sort_perm, sort_canonical, perm_of_sort, insert_nil}
 
 -- Bal d x: x read from depth d never closes more than is open, and ends at depth 0
 pub data Bal : ℕ → List ℕ → Type 0 where
@@ -136,6 +136,10 @@ unfolding collapse
 length_collapse xs = length_join (sort xs) ∙ total_perm (sort_perm xs)
 
 -- two strings, by the test on them
+pub collapse_one : (x : List ℕ) → collapse (x ∷ []) ≡ wrap x
+unfolding collapse sort join
+collapse_one x = ap join (insert_nil x) ∙ append-nil (wrap x)
+
 pub collapse_two : (x y : List ℕ) → lex_le x y ≡ true → collapse (x ∷ y ∷ []) ≡ wrap x ++ wrap y
 unfolding collapse sort insert join
 collapse_two x y e = rw (e, insert) (ap (λ (l : List ℕ). wrap x ++ l) (append-nil (wrap y)))

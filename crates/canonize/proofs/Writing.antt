@@ -100,22 +100,6 @@ wrote_nil out k = record { place = omega arith; is = sym (written_nil out k) }
 pub wrote_byte : (out : Bytes) (k b : ℕ) → k < length out → Wrote out k (b ∷ []) (k + 1) (set out k b)
 wrote_byte out k b h = record { place = refl; is = written_set out k b h }
 
--- a byte, wrapped
-pub wrote_own : (out : Bytes) (k b : ℕ) → k + 3 ≤ length out → Wrote out k (0 ∷ b ∷ 255 ∷ []) (k + 3) (set (set (set out k 0) (k + 1) b) (k + 2) 255)
-wrote_own out k b h =
-    let one : Wrote out k (0 ∷ []) (k + 1) (set out k 0) = wrote_byte out k 0 (omega arith) in
-    let two : set (set out k 0) (k + 1) b ≡ written out k (0 ∷ b ∷ []) =
-    written_set (set out k 0) (k + 1) b (omega (arith, length-set out k 0))
-    ∙ ap (λ (l : Bytes). written l (k + 1) (b ∷ [])) one.is
-    ∙ written_then out k (0 ∷ []) (omega arith) (b ∷ []) (omega arith) in
-    record {
-      place = refl;
-      is =
-          written_set (set (set out k 0) (k + 1) b) (k + 2) 255 (omega (arith, length-set (set out k 0) (k + 1) b, length-set out k 0))
-          ∙ ap (λ (l : Bytes). written l (k + 2) (255 ∷ [])) two
-          ∙ written_then out k (0 ∷ b ∷ []) (omega arith) (255 ∷ []) (omega arith);
-    }
-
 pub wrote_length : {out : Bytes} {k : ℕ} {x : Bytes} {next : ℕ} {now : Bytes} → Wrote out k x next now → k + length x ≤ length out → length now ≡ length out
 wrote_length {out} {k} {x} w h = ap length w.is ∙ written_length out k x h
 
@@ -149,28 +133,44 @@ copied out from n to h e =
     let k : length (take n (drop from out)) ≡ n = part_length out from n h in
     record { place = omega arith; is = e ∙ rw (m, k) refl }
 
--- ---- bytes from another place, wrapped: a 0 is put, they are copied, and 255 is put
+-- ---- a string, wrapped: a 0 is put, the string, and 255
 
-module _ (out : Bytes) (from n place : ℕ) (apart : NoneShared from n place (n + 2)) (fits : from + n ≤ length out) (room : place + (n + 2) ≤ length out) where
-  -- the 0 is not among them
-  opened_part : take n (drop from (set out place 0)) ≡ take n (drop from out)
-  opened_part =
-      let side : (from + n ≤ place) ⊎ (place + 1 ≤ from) = ⊎_elim (λ (g : from + n ≤ place). inl g) (λ (g : place + (n + 2) ≤ from). inr (omega arith)) apart in
-      ap (λ (l : Bytes). take n (drop from l)) (written_set out place 0 (omega arith)) ∙ written_part out place (0 ∷ []) (omega arith) from n side
+module _ (out : Bytes) (place : ℕ) (x : Bytes) (room : place + (length x + 2) ≤ length out) {end : ℕ} {now : Bytes} (w : Wrote (set out place 0) (place + 1) x end now) where
+  opened : Wrote out place (0 ∷ x) end now
+  opened = wrote_then (wrote_byte out place 0 (omega arith)) w (omega arith)
 
-  module _ {end : ℕ} {now : Bytes} (w : Wrote (set out place 0) (place + 1) (take n (drop from (set out place 0))) end now) where
-    pub wrapped_open : Wrote out place (0 ∷ take n (drop from out)) end now
-    wrapped_open = wrote_then (wrote_byte out place 0 (omega arith)) (rw opened_part at w) (omega (arith, part_length out from n fits))
+  pub wrapped_wrote : {last : ℕ} → last ≡ end + 1 → Wrote out place (wrap x) last (set now end 255)
+  unfolding wrap
+  wrapped_wrote e = rw e (wrote_then opened (wrote_byte now end 255 (omega (arith, opened.place, wrote_length opened (omega arith)))) (omega arith))
 
-    pub wrapped_length : length now ≡ length out
-    wrapped_length = wrote_length wrapped_open (omega (arith, part_length out from n fits))
+-- a string of one byte, or of two
+module _ (out : Bytes) (place : ℕ) where
+  abbrev zero_put : Bytes
+  zero_put = set out place 0
 
-    pub wrapped_end : end < length now
-    wrapped_end = omega (arith, wrapped_length, wrapped_open.place, part_length out from n fits)
+  first : (a : ℕ) → place + 2 ≤ length out → Wrote zero_put (place + 1) (a ∷ []) (place + 2) (set zero_put (place + 1) a)
+  first a h = record { place = omega arith; is = written_set zero_put (place + 1) a (omega (arith, length-set out place 0)) }
 
-    pub wrapped_wrote : Wrote out place (wrap (take n (drop from out))) (end + 1) (set now end 255)
-    unfolding wrap
-    wrapped_wrote = wrote_then wrapped_open (wrote_byte now end 255 wrapped_end) (omega (arith, part_length out from n fits))
+  second : (a b : ℕ) → place + 3 ≤ length out
+      → Wrote (set zero_put (place + 1) a) (place + 2) (b ∷ []) (place + 3) (set (set zero_put (place + 1) a) (place + 2) b)
+  second a b h = record {
+    place = omega arith;
+    is = written_set (set zero_put (place + 1) a) (place + 2) b (omega (arith, length-set zero_put (place + 1) a, length-set out place 0));
+  }
+
+  pub wrapped_one : (a : ℕ) → place + 3 ≤ length out → Wrote out place (wrap (a ∷ [])) (place + 3) (set (set (set out place 0) (place + 1) a) (place + 2) 255)
+  wrapped_one a h = wrapped_wrote out place (a ∷ []) h (first a (omega arith)) (omega arith)
+
+  pub wrapped_two : (a b : ℕ) → place + 4 ≤ length out
+      → Wrote out place (wrap (a ∷ b ∷ [])) (place + 4) (set (set (set (set out place 0) (place + 1) a) (place + 2) b) (place + 3) 255)
+  wrapped_two a b h =
+      wrapped_wrote out place (a ∷ b ∷ []) h (wrote_then (first a (omega arith)) (second a b (omega arith)) (omega (arith, length-set out place 0))) (omega arith)
+
+-- bytes from another place: the 0 is not among them
+pub opened_part : (out : Bytes) (from n place : ℕ) → NoneShared from n place (n + 2) → place < length out → take n (drop from (set out place 0)) ≡ take n (drop from out)
+opened_part out from n place apart h =
+    let side : (from + n ≤ place) ⊎ (place + 1 ≤ from) = ⊎_elim (λ (g : from + n ≤ place). inl g) (λ (g : place + (n + 2) ≤ from). inr (omega arith)) apart in
+    ap (λ (l : Bytes). take n (drop from l)) (written_set out place 0 h) ∙ written_part out place (0 ∷ []) (omega arith) from n side
 
 -- ---- bytes from two places before, each wrapped
 

@@ -1,4 +1,4 @@
--- Document 01, 'Answers and turned-back records': rows 1 to 6, 13 and 14, and label's whole answer.
+-- Document 01, 'Answers and turned-back records': check's rows, 13 and 14, and label's whole answer. Document 02, 1/14: 14 is under 454 bytes.
 use Rattle.std.specs.Prelude.{Bool, Result, Ok, Err, not, ◌||◌, ◌++◌, ℕ, ◌^◌, length, drop, ltb, leb, eqb}
 use Rattle.molecule.specs.Lists.{Bytes}
 use Rattle.molecule.specs.Record.{bonds}
@@ -13,11 +13,11 @@ use Rattle.canonize.specs.declared.LabelRefusal.TheVariants.{Record, Set, Buffer
 unfoldable pub bad_set : Bytes → ℕ → Bool
 bad_set r s = eqb s 0 || leb (2 ^ bonds r) s || not (connected r s)
 
--- rows 1 to 6, then 13, then 14: buffer under 389 bytes
+-- check's rows, then 13, then 14: buffer under 454 bytes
 unfoldable pub label_verdict : Bytes → ℕ → ℕ → Answer
 label_verdict r s room = elim (check r) [
   | refused k p ↦ refused k p
-  | accepted ↦ row 13 0 (bad_set r s) (row 14 0 (ltb room 389) accepted)
+  | accepted ↦ row 13 0 (bad_set r s) (row 14 0 (ltb room 454) accepted)
 ]
 
 -- a label answer gives the length; else the row's number and place

@@ -9,11 +9,11 @@ pub record Bond : Type 0 where
   pub v : ℕ
   pub code : ℕ
 
--- a fragment: its atoms, its bonds, and the element code of each atom
+-- a fragment: its atoms, its bonds, and of each atom its own string, which says what kind of atom it is
 pub record Frag : Type 0 where
   pub atoms : List ℕ
   pub bonds : List Bond
-  pub elem : ℕ → ℕ
+  pub kind : ℕ → Bytes
 
 -- a bond the other way round
 abbrev pub turn : Bond → Bond
@@ -49,13 +49,9 @@ pub record Peel : Type 0 where
   pub left : List Bond
   pub own : ℕ → List Bytes
 
--- an atom's own string: the one that holds its element code
-abbrev pub own_string : (ℕ → ℕ) → ℕ → Bytes
-own_string elem n = elem n ∷ []
-
--- all atoms and bonds are there, and each atom starts with the one string
+-- all atoms and bonds are there, and each atom starts with the one string, its own
 abbrev pub start : Frag → Peel
-start a = record { present = a.atoms; left = a.bonds; own = λ n. own_string a.elem n ∷ [] }
+start a = record { present = a.atoms; left = a.bonds; own = λ n. a.kind n ∷ [] }
 
 -- a round: all present end atoms are taken off, and each hands its neighbour the bond code followed by its own collapsed strings
 abbrev pub round : Peel → Peel

@@ -1,8 +1,8 @@
--- Isomorphism of two sets of bonds, s of record r and t of record q: ordinary graph isomorphism that keeps element codes and bond codes.
+-- Isomorphism of two sets of bonds, s of record r and t of record q: ordinary graph isomorphism that keeps element codes, classes and bond codes.
 use Rattle.std.specs.Prelude.{◌≡◌, ◌⊎◌, ℕ}
 use Rattle.bitset.specs.Bits.{bit}
 use Rattle.molecule.specs.Lists.{Bytes}
-use Rattle.molecule.specs.Record.{element, end_a, end_b, code}
+use Rattle.molecule.specs.Record.{element, class, end_a, end_b, code}
 use Rattle.molecule.specs.Tree.{Joins}
 
 -- v is an atom of s: an end of one of its bonds
@@ -20,7 +20,8 @@ pub record Isomorphism (r : Bytes) (s : ℕ) (q : Bytes) (t : ℕ) : Type 0 wher
   pub bond_into : (i : ℕ) → bit s i ≡ 1 → bit t (bond i) ≡ 1
   pub bond_onto : (j : ℕ) → bit t j ≡ 1 → (i : ℕ) × (bit s i ≡ 1) × (bond i ≡ j)
   pub bond_one : (i j : ℕ) → bit s i ≡ 1 → bit s j ≡ 1 → bond i ≡ bond j → i ≡ j
-  -- elements, bond codes and ends are kept
+  -- elements, classes, bond codes and ends are kept
   pub elements : (v : ℕ) → AtomOf r s v → element q (atom v) ≡ element r v
+  pub classes : (v : ℕ) → AtomOf r s v → class q (atom v) ≡ class r v
   pub codes : (i : ℕ) → bit s i ≡ 1 → code q (bond i) ≡ code r i
   pub ends : (i : ℕ) → bit s i ≡ 1 → Joins q (bond i) (atom (end_a r i)) (atom (end_b r i))

@@ -3,6 +3,7 @@ pub mod Strings
 pub mod Fragment
 pub mod Label
 pub mod Isomorphism
+pub mod Unmarked
 pub mod Answer
 pub mod Inner
 pub mod Examples

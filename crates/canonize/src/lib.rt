@@ -1,5 +1,5 @@
 #![tactic(auto)]
-// Labels of fragments: two fragments have equal labels exactly when an element- and bond-keeping isomorphism joins them.
+// Labels of fragments: two fragments have equal labels exactly when an isomorphism that keeps elements, classes and bonds joins them.
 // Numbers turn by `as`, shown to lose nothing: usize has no From, and a TryFrom would answer an error that never is.
 ghost use Rattle.std.specs.Prelude.{◌≡◌, not, ◌≤◌, length};
 ghost use Rattle.canonize.specs.Label.{label};
@@ -16,7 +16,7 @@ mod strings;
 
 pub use slate::Slate;
 
-// Why a label is not answered: rows 1 to 6 of document 01, the record; 13, the set; 14, the buffer.
+// Why a label is not answered: check's rows, the record; 13, the set; 14, the buffer.
 #[derive(Clone, Copy, Debug, PartialEq, Eq)]
 pub enum LabelRefusal {
     Record(Fault),
@@ -70,7 +70,7 @@ fn is_fragment(molecule: &Molecule, set: u64) -> bool
 
 // The label of set goes to the front of out; the answer is its length.
 fn label_out(molecule: &Molecule, set: u64, out: &mut [u8]) -> usize
-    requires { Fragment molecule.now.bytes.now set × (389 ≤ length out.old) }
+    requires { Fragment molecule.now.bytes.now set × (454 ≤ length out.old) }
     ensures { Wrote out.old 0 (label molecule.now.bytes.now set) result out.new }
 {
     let mut slate = Slate::new();
@@ -89,7 +89,7 @@ fn label_accepted(molecule: &Molecule, set: u64, out: &mut [u8]) -> Result<usize
     if !is_fragment(molecule, set) {
         return Err(LabelRefusal::Set);
     }
-    if out.len() < 389 {
+    if out.len() < 454 {
         return Err(LabelRefusal::Buffer);
     }
     Ok(label_out(molecule, set, out))

@@ -54,14 +54,18 @@ fn put_atom(
     ensures { Wrote slate.old place (collapse (strings_at molecule.now.bytes.now s left (slot slate.old) v)) result slate.new }
 {
     let set = bitset::difference(bitset::common(molecule.at[v], s), left);
-    strings::put_collapsed(slate, set, molecule.element(v), place)
+    let kind = strings::Kind {
+        element: molecule.element(v),
+        class: molecule.class(v),
+    };
+    strings::put_collapsed(slate, set, kind, place)
 }
 
 // Bond i of left hands over from its end v: its bond code and the collapsed strings of v become the string of slot i.
 #[tactic(auto, using(molecule::proofs::Accepted::accepted_formed))]
 fn hand_over(molecule: &Molecule, s: u64, left: u64, i: u32, v: usize, slate: &mut [u8])
     requires { (i < bonds molecule.now.bytes.now) × (v < atoms molecule.now.bytes.now) × Slots slate.old
-        × (bit left i ≡ 1) × (length (handed molecule.now.bytes.now s left (slot slate.old) i v) ≤ 389) }
+        × (bit left i ≡ 1) × (length (handed molecule.now.bytes.now s left (slot slate.old) i v) ≤ 454) }
     ensures { SlotIs slate.old i (handed molecule.now.bytes.now s left (slot slate.old) i v) slate.new }
 {
     let k = i as usize;
@@ -100,7 +104,7 @@ pub fn far_end(molecule: &Molecule, left: u64, i: u32) -> usize
 // One atom left, v: its collapsed strings become the string of slot k.
 pub fn put_centre(molecule: &Molecule, s: u64, left: u64, v: usize, slate: &mut [u8], k: usize)
     requires { (v < atoms molecule.now.bytes.now) × Slots slate.old × (64 ≤ k) × (k < 66)
-        × (length (collapse (strings_at molecule.now.bytes.now s left (slot slate.old) v)) ≤ 389) }
+        × (length (collapse (strings_at molecule.now.bytes.now s left (slot slate.old) v)) ≤ 454) }
     ensures { LabelAt slate.old k (collapse (strings_at molecule.now.bytes.now s left (slot slate.old) v)) slate.new }
 {
     let start = strings::start(k);
@@ -130,7 +134,7 @@ fn put_two(slate: &mut [u8], from: usize, middle: usize, end: usize, place: usiz
 #[tactic(auto, using(molecule::proofs::Accepted::accepted_formed))]
 pub fn put_centres(molecule: &Molecule, s: u64, left: u64, i: u32, slate: &mut [u8], k: usize)
     requires { (i < bonds molecule.now.bytes.now) × Slots slate.old × (64 ≤ k) × (k < 66)
-        × (bit left i ≡ 1) × (length (centres molecule.now.bytes.now s left (slot slate.old) i) ≤ 389) }
+        × (bit left i ≡ 1) × (length (centres molecule.now.bytes.now s left (slot slate.old) i) ≤ 454) }
     ensures { LabelAt slate.old k (centres molecule.now.bytes.now s left (slot slate.old) i) slate.new }
 {
     let b = i as usize;

@@ -11,11 +11,11 @@ use crate::{compare, peel, strings};
 use molecule::Molecule;
 use std::marker::Model;
 
-// A slate, seen as the label that it keeps: 66 slots of 391 bytes. The struct is made once and lent, and never copied. The slots are one array, and no
+// A slate, seen as the label that it keeps: 66 slots of 456 bytes. The struct is made once and lent, and never copied. The slots are one array, and no
 // array of arrays: a string goes from slot to slot by copy_within, which works inside one slice.
 #[derive(Drop)]
 pub struct Slate {
-    bytes: [u8; 25806],
+    bytes: [u8; 30096],
 }
 
 impl Model for Slate {
@@ -54,7 +54,7 @@ impl Slate {
     #[tactic(auto, using(crate::proofs::Slots::slots_blank))]
     pub fn new() -> Slate {
         Slate {
-            bytes: [0u8; 25806],
+            bytes: [0u8; 30096],
         }
     }
 
@@ -91,7 +91,7 @@ impl Slate {
 
     // The label that is kept.
     pub fn label(&self) -> &[u8]
-        ensures { (result.now ≡ self.now) × (length result.now ≤ 389) }
+        ensures { (result.now ≡ self.now) × (length result.now ≤ 454) }
     {
         strings::string(&self.bytes, 64)
     }

@@ -4,6 +4,7 @@
 ghost use Rattle.std.specs.Prelude.{◌≡◌, [], ◌∷◌, map, ◌+◌, ◌*◌, ◌≤◌, ◌<◌, length, take, drop};
 ghost use Rattle.bitset.specs.Bits.{members};
 ghost use Rattle.canonize.specs.Strings.{lex_le, wrap, sort, join, collapse};
+ghost use Rattle.canonize.specs.Label.{own};
 ghost use Rattle.canonize.specs.Inner.Slate.{slot_length, slot, Slots};
 ghost use Rattle.canonize.specs.Inner.Places.{Wrote, NoneShared, FreeSlot, SlotIs, Least, After};
 
@@ -12,19 +13,19 @@ use crate::compare;
 // The place at which the string of slot i starts.
 pub fn start(i: usize) -> usize
     requires { i < 66 }
-    ensures { result ≡ 391 * i + 2 }
+    ensures { result ≡ 456 * i + 2 }
 {
-    391 * i + 2
+    456 * i + 2
 }
 
 // How long the string of slot i is. By * and +: from_le_bytes would want the two bytes in an array first, and answers a u16.
 #[tactic(auto, unfolding(crate::specs::Inner::Slate::slot_length))]
 pub fn slot_length(slate: &[u8], i: usize) -> usize
     requires { Slots slate.now × (i < 66) }
-    ensures { (result ≡ slot_length slate.now i) × (result ≤ 389) }
+    ensures { (result ≡ slot_length slate.now i) × (result ≤ 454) }
 {
-    let low = usize::from(slate[391 * i]);
-    let high = usize::from(slate[391 * i + 1]);
+    let low = usize::from(slate[456 * i]);
+    let high = usize::from(slate[456 * i + 1]);
     low + 256 * high
 }
 
@@ -40,11 +41,11 @@ pub fn string(slate: &[u8], i: usize) -> &[u8]
 
 // The n bytes that stand in slot i become its string. By % and /: to_le_bytes would want n as a u16 first, and a slice of two bytes to copy into.
 pub fn set_length(slate: &mut [u8], i: usize, n: usize)
-    requires { Slots slate.old × (i < 66) × (n ≤ 389) }
-    ensures { SlotIs slate.old i (take n (drop (391 * i + 2) slate.old)) slate.new }
+    requires { Slots slate.old × (i < 66) × (n ≤ 454) }
+    ensures { SlotIs slate.old i (take n (drop (456 * i + 2) slate.old)) slate.new }
 {
-    slate[391 * i] = (n % 256) as u8;
-    slate[391 * i + 1] = (n / 256) as u8;
+    slate[456 * i] = (n % 256) as u8;
+    slate[456 * i + 1] = (n / 256) as u8;
 }
 
 // Puts x at the front of out. One call of the library, by a name that the laws of strings at places speak of.
@@ -71,7 +72,7 @@ pub fn put_wrapped(slate: &mut [u8], from: usize, n: usize, place: usize) -> usi
 // Puts the string of slot i, wrapped.
 #[tactic(auto, using(crate::proofs::Wrapping::length_wrap, crate::proofs::Slots::slot_length_lem), unfolding(crate::specs::Inner::Slate::slot))]
 fn put_slot(slate: &mut [u8], i: u32, place: usize) -> usize
-    requires { Slots slate.old × (i < 64) × NoneShared (391 * i) 391 place (length (wrap (slot slate.old i)))
+    requires { Slots slate.old × (i < 64) × NoneShared (456 * i) 456 place (length (wrap (slot slate.old i)))
         × (place + length (wrap (slot slate.old i)) ≤ length slate.old) }
     ensures { Wrote slate.old place (wrap (slot slate.old i)) result slate.new }
 {
@@ -118,6 +119,13 @@ fn put_sorted(slate: &mut [u8], set: u64, place: usize) -> usize
     next
 }
 
+// What kind of atom it is: its element code and its class, of which its own string is made.
+#[derive(Clone, Copy)]
+pub struct Kind {
+    pub element: u8,
+    pub class: u8,
+}
+
 // Whether the one byte e comes before the string of slot i, or is equal to it.
 #[tactic(auto, using(crate::proofs::Sorting::byte_first, crate::proofs::Sorting::byte_none))]
 fn byte_before(slate: &[u8], e: u8, i: u32) -> bool
@@ -128,39 +136,58 @@ fn byte_before(slate: &[u8], e: u8, i: u32) -> bool
     !x.is_empty() && e <= x[0]
 }
 
-// The slots of the set whose strings the one byte e comes before, or is equal to.
-fn after_byte(slate: &[u8], set: u64, e: u8) -> u64
+// Whether the own string of an atom comes before the string of slot i, or is equal to it.
+fn own_before(slate: &[u8], kind: Kind, i: u32) -> bool
+    requires { Slots slate.now × (i < 64) }
+    ensures { result ≡ lex_le (own kind.element kind.class) (slot slate.now i) }
+{
+    if kind.class == 1 {
+        return byte_before(slate, kind.element, i);
+    }
+    compare::less_or_equal(&[kind.element, kind.class], string(slate, i as usize))
+}
+
+// The slots of the set whose strings the own string of an atom comes before, or is equal to.
+fn after_own(slate: &[u8], set: u64, kind: Kind) -> u64
     requires { Slots slate.now }
-    ensures { After (slot slate.now) set e result }
+    ensures { After (slot slate.now) set (own kind.element kind.class) result }
 {
     let mut after = 0;
     for i in bitset::ascending(set) {
-        if byte_before(slate, e, i) {
+        if own_before(slate, kind, i) {
             after = bitset::insert(after, i);
         }
     }
     after
 }
 
-// Puts the one byte e, wrapped.
-#[tactic(auto, using(crate::proofs::Writing::wrote_own), unfolding(crate::specs::Strings::wrap))]
-fn put_byte(slate: &mut [u8], e: u8, place: usize) -> usize
-    requires { place + 3 ≤ length slate.old }
-    ensures { Wrote slate.old place (wrap (e ∷ [])) result slate.new }
+// Puts the own string of an atom, wrapped.
+fn put_own(slate: &mut [u8], kind: Kind, place: usize) -> usize
+    requires { place + (length (own kind.element kind.class) + 2) ≤ length slate.old }
+    ensures { Wrote slate.old place (wrap (own kind.element kind.class)) result slate.new }
 {
     slate[place] = 0;
-    slate[place + 1] = e;
-    slate[place + 2] = 255;
-    place + 3
+    slate[place + 1] = kind.element;
+    if kind.class == 1 {
+        slate[place + 2] = 255;
+        place + 3
+    } else {
+        slate[place + 2] = kind.class;
+        slate[place + 3] = 255;
+        place + 4
+    }
 }
 
-// Puts the collapsed strings of an atom: the one byte e, and the strings of the slots of the set.
-pub fn put_collapsed(slate: &mut [u8], set: u64, e: u8, place: usize) -> usize
-    requires { Slots slate.old × FreeSlot set place (length (collapse ((e ∷ []) ∷ map (slot slate.old) (members set)))) }
-    ensures { Wrote slate.old place (collapse ((e ∷ []) ∷ map (slot slate.old) (members set))) result slate.new }
+// Puts the collapsed strings of an atom: its own, and the strings of the slots of the set.
+pub fn put_collapsed(slate: &mut [u8], set: u64, kind: Kind, place: usize) -> usize
+    requires { Slots slate.old × FreeSlot set place (length (collapse (own kind.element kind.class ∷ map (slot slate.old) (members set)))) }
+    ensures { Wrote slate.old place (collapse (own kind.element kind.class ∷ map (slot slate.old) (members set))) result slate.new }
 {
-    let after = after_byte(slate, set, e);
+    if set == 0 {
+        return put_own(slate, kind, place);
+    }
+    let after = after_own(slate, set, kind);
     let middle = put_sorted(slate, bitset::difference(set, after), place);
-    let last = put_byte(slate, e, middle);
+    let last = put_own(slate, kind, middle);
     put_sorted(slate, after, last)
 }

@@ -29,6 +29,8 @@ pub use Rattle.matches.proofs.RowLaws.{parts_over, pairs_over, all_fit, table_re
 -- sets by size and label, and the order of matches by them
 pub use Rattle.matches.proofs.Ranks.{akin_sym, akin_trans, precedes_akin, akin_precedes, precedes_refl, precedes_both, smaller_before, before_size, Last, last_one, before_in, before_has, before_perm, before_fewer}
 pub use Rattle.matches.proofs.Order.{MatchOf, firsts_order, seconds_order, twins_match}
+-- records that read alike
+pub use Rattle.matches.proofs.Reading.{read_back, unmarked_alike, match_table_alike, pairs_alike}
 -- for whoever builds the table, as it grows and as it is written down
 pub use Rattle.matches.proofs.Noting.{distinct_at}
 pub use Rattle.matches.proofs.ByLabel.{before_differ, groups_every}

@@ -11,4 +11,5 @@ pub mod Order
 pub mod Descending
 pub mod RowLaws
 pub mod Recorded
+pub mod Reading
 pub mod Laws

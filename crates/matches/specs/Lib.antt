@@ -2,5 +2,6 @@
 pub mod Table
 pub mod Rows
 pub mod Laws
+pub mod Reading
 pub mod Examples
 pub mod Inner

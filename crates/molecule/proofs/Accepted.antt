@@ -10,8 +10,8 @@ use borrow.Author.Tests.{eqb-true, eqb-false, ltb-false, leb-false, not-false}
 use Rattle.bitset.specs.Bits.{bit, has}
 use Rattle.bitset.proofs.Bools.{or_false}
 use Rattle.molecule.specs.Lists.{Bytes, first}
-use Rattle.molecule.specs.Record.{atoms, bonds, element, end_a, end_b, code}
-use Rattle.molecule.specs.Check.{Answer, accepted, refused, row, row_at, bad_length, bad_counts, bad_element, bad_code, bad_ends, reached, unreached, check}
+use Rattle.molecule.specs.Record.{atoms, bonds, element, class, end_a, end_b, code}
+use Rattle.molecule.specs.Check.{Answer, accepted, refused, row, row_at, wrong_byte, bad_length, bad_counts, bad_element, bad_class, bad_code, bad_ends, reached, unreached, check}
 use Rattle.molecule.specs.Tree.{RightCounts, Formed}
 use Rattle.molecule.proofs.Scans.{first_none}
 
@@ -35,11 +35,11 @@ row_at_next k fault n next e =
 -- ---- what each row's test says where it is false
 
 module _ (r : Bytes) where
-  pub length_right : bad_length r ≡ false → length r ≡ 2 + atoms r + 3 * bonds r
+  pub length_right : bad_length r ≡ false → length r ≡ 2 + 2 * atoms r + 3 * bonds r
   unfolding bad_length
   length_right e =
-      let w = or_false (ltb (length r) 2) (not (eqb (length r) (2 + atoms r + 3 * bonds r))) e in
-      eqb-true (length r) (2 + atoms r + 3 * bonds r) (not-false (eqb (length r) (2 + atoms r + 3 * bonds r)) w.1)
+      let w = or_false (ltb (length r) 2) (not (eqb (length r) (2 + 2 * atoms r + 3 * bonds r))) e in
+      eqb-true (length r) (2 + 2 * atoms r + 3 * bonds r) (not-false (eqb (length r) (2 + 2 * atoms r + 3 * bonds r)) w.1)
 
   pub counts_right : bad_counts r ≡ false → (1 ≤ bonds r) × (bonds r ≤ 64) × (atoms r ≡ bonds r + 1)
   unfolding bad_counts
@@ -52,11 +52,16 @@ module _ (r : Bytes) where
   pub sized_of : bad_length r ≡ false → bad_counts r ≡ false → RightCounts r
   sized_of l c = let w = counts_right c in record { long = length_right l; some = w.0; few = w.1; count = w.2 }
 
+  byte_right : (b : ℕ) → wrong_byte b ≡ false → (b ≢ 0) × (b ≢ 255)
+  byte_right b e = let w = or_false (eqb b 0) (eqb b 255) e in (eqb-false b 0 w.0, eqb-false b 255 w.1)
+
   pub element_right : (v : ℕ) → bad_element r v ≡ false → (element r v ≢ 0) × (element r v ≢ 255)
   unfolding bad_element
-  element_right v e =
-      let w = or_false (eqb (element r v) 0) (eqb (element r v) 255) e in
-      (eqb-false (element r v) 0 w.0, eqb-false (element r v) 255 w.1)
+  element_right v = byte_right (element r v)
+
+  pub class_right : (v : ℕ) → bad_class r v ≡ false → (class r v ≢ 0) × (class r v ≢ 255)
+  unfolding bad_class
+  class_right v = byte_right (class r v)
 
   pub code_right : (i : ℕ) → bad_code r i ≡ false → (1 ≤ code r i) × (code r i ≤ 3)
   unfolding bad_code
@@ -82,6 +87,7 @@ record Passed (r : Bytes) : Type 0 where
   lengths : bad_length r ≡ false
   counts : bad_counts r ≡ false
   elements : (v : ℕ) → v < atoms r → bad_element r v ≡ false
+  classes : (v : ℕ) → v < atoms r → bad_class r v ≡ false
   codes : (i : ℕ) → i < bonds r → bad_code r i ≡ false
   ends : (i : ℕ) → i < bonds r → bad_ends r i ≡ false
   reaches : (v : ℕ) → v < atoms r → unreached r v ≡ false
@@ -93,16 +99,20 @@ module _ (r : Bytes) (e : check r ≡ accepted) where
       let a1 = row_next 1 _ (bad_length r) _ e in
       let a2 = row_next 2 0 (bad_counts r) _ a1.1 in
       let a3 = row_at_next 3 (bad_element r) (atoms r) _ a2.1 in
-      let a4 = row_at_next 4 (bad_code r) (bonds r) _ a3.1 in
+      let a15 = row_at_next 15 (bad_class r) (atoms r) _ a3.1 in
+      let a4 = row_at_next 4 (bad_code r) (bonds r) _ a15.1 in
       let a5 = row_at_next 5 (bad_ends r) (bonds r) _ a4.1 in
       let a6 = row_at_next 6 (unreached r) (atoms r) accepted a5.1 in
-      record { lengths = a1.0; counts = a2.0; elements = a3.0; codes = a4.0; ends = a5.0; reaches = a6.0 }
+      record { lengths = a1.0; counts = a2.0; elements = a3.0; classes = a15.0; codes = a4.0; ends = a5.0; reaches = a6.0 }
 
   pub accepted_formed : Formed r
   accepted_formed = record { sized = sized_of r passed.lengths passed.counts; ends = λ i l. ends_right r i (passed.ends i l) }
 
   pub accepted_elements : (v : ℕ) → v < atoms r → (element r v ≢ 0) × (element r v ≢ 255)
   accepted_elements v l = element_right r v (passed.elements v l)
+
+  pub accepted_classes : (v : ℕ) → v < atoms r → (class r v ≢ 0) × (class r v ≢ 255)
+  accepted_classes v l = class_right r v (passed.classes v l)
 
   pub accepted_codes : (i : ℕ) → i < bonds r → (1 ≤ code r i) × (code r i ≤ 3)
   accepted_codes i l = code_right r i (passed.codes i l)

@@ -14,3 +14,5 @@ pub mod RowLaws
 pub mod Reached
 pub mod Trees
 pub mod Whole
+pub mod Natural
+pub mod Graphs

@@ -22,7 +22,7 @@ use native.Mathlib.Decide.{ℕ_discrete}
 use lib.ListN.{replicate, get_or, set, drop, length, length-append, length-drop}
 use lib.Seq.{drop-cons, set_at}
 use Rattle.bitset.proofs.Bools.{two}
-use Rattle.molecule.specs.Lists.{numbers_from, list_from, filter, any, insert_by, sort_by}
+use Rattle.molecule.specs.Lists.{numbers_from, list_from, filter, any, fold, insert_by, sort_by}
 
 module _ {A : Type 0} (f : ℕ → A) where
   pub length_list : (k n : ℕ) → length (list_from f k n) ≡ n
@@ -211,6 +211,12 @@ front_put old now k done x w h = record {
 
 pub front_length : {A : Type 0} {old now : List A} {k : ℕ} {done : List A} → Front old now k done → k ≤ length old → length now ≡ length old
 front_length {old = old} {k = k} {done = done} w h = ap length w.is ∙ simp (length-append, length-drop) (omega (arith, w.count))
+
+-- ---- a fold, by functions that agree at each element
+
+pub fold_same : {A B : Type 0} (f g : B → A → B) (l : List A) → ((x : A) → Mem x l → (b : B) → f b x ≡ g b x) → (b : B) → fold f b l ≡ fold g b l
+fold_same f g [] h b = refl
+fold_same f g (x ∷ l) h b = ap (λ z. fold f z l) (h x (m_head refl) b) ∙ fold_same f g l (λ y m. h y (m_tail m)) (g b x)
 
 -- ---- the numbers from k on
 

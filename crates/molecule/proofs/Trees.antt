@@ -18,7 +18,7 @@ use Rattle.molecule.specs.Record.{atoms, bonds, end_a, end_b, all_bonds}
 use Rattle.molecule.specs.Check.{accepted, check}
 use Rattle.molecule.specs.Tree.{Formed, Joins, Walk, stay, along, Tree}
 use Rattle.molecule.proofs.Scans.{first_hit, first_none}
-use Rattle.molecule.proofs.Accepted.{accepted_formed, accepted_elements, accepted_codes, accepted_reached}
+use Rattle.molecule.proofs.Accepted.{accepted_formed, accepted_elements, accepted_classes, accepted_codes, accepted_reached}
 use Rattle.molecule.proofs.Reached.{joins_sym, Shut, walk_in, walk_back, reached_walk}
 
 module _ (r : Bytes) where
@@ -156,6 +156,7 @@ pub accepted_tree : (r : Bytes) → check r ≡ accepted → Tree r
 accepted_tree r e = record {
   formed = k;
   elements = accepted_elements r e;
+  classes = accepted_classes r e;
   codes = accepted_codes r e;
   all = all;
   one = one r k all;

@@ -1,9 +1,9 @@
--- Document 01, 'Answers and turned-back records': rows 1 to 6, and check's answer.
+-- Document 01, 'Answers and turned-back records': rows 1 to 6, and check's answer; row 15 is document 02's, 1/14.
 use Rattle.std.specs.Prelude.{Bool, true, false, not, ◌||◌, ℕ, zero, suc, ◌+◌, ◌*◌, ◌^◌, length, ltb, leb, eqb}
 use Rattle.std.specs.Int.Bits.{bit_or}
 use Rattle.bitset.specs.Bits.{has, members, unions}
 use Rattle.molecule.specs.Lists.{Bytes, first}
-use Rattle.molecule.specs.Record.{atoms, bonds, element, end_a, end_b, code, all_bonds}
+use Rattle.molecule.specs.Record.{atoms, bonds, element, class, end_a, end_b, code, all_bonds}
 
 -- an answer of the table: accepted, or turned back with the row's number and place
 pub data Answer : Type 0 where
@@ -28,9 +28,9 @@ row k p false next = next
 unfoldable pub row_at : ℕ → (ℕ → Bool) → ℕ → Answer → Answer
 row_at k fault n next = row k (first fault n) (ltb (first fault n) n) next
 
--- an element code that row 3 turns back
-abbrev pub wrong_element : ℕ → Bool
-wrong_element e = eqb e 0 || eqb e 255
+-- an element code that row 3 turns back, or a class that row 15 does: 0 or 255
+abbrev pub wrong_byte : ℕ → Bool
+wrong_byte e = eqb e 0 || eqb e 255
 
 -- a bond code that row 4 turns back: not 1, 2 or 3
 abbrev pub wrong_code : ℕ → Bool
@@ -41,9 +41,9 @@ abbrev pub wrong_ends : ℕ → ℕ → ℕ → Bool
 wrong_ends a u v = leb a u || leb a v || eqb u v
 
 module _ (r : Bytes) where
-  -- row 1: under 2 bytes, or not 2 + a + 3n
+  -- row 1: under 2 bytes, or not 2 + 2a + 3n
   unfoldable pub bad_length : Bool
-  bad_length = ltb (length r) 2 || not (eqb (length r) (2 + atoms r + 3 * bonds r))
+  bad_length = ltb (length r) 2 || not (eqb (length r) (2 + 2 * atoms r + 3 * bonds r))
 
   -- row 2: n is 0 or over 64, or a is not n + 1
   unfoldable pub bad_counts : Bool
@@ -51,7 +51,11 @@ module _ (r : Bytes) where
 
   -- row 3: element code 0 or 255
   unfoldable pub bad_element : ℕ → Bool
-  bad_element v = wrong_element (element r v)
+  bad_element v = wrong_byte (element r v)
+
+  -- row 15: class 0 or 255
+  unfoldable pub bad_class : ℕ → Bool
+  bad_class v = wrong_byte (class r v)
 
   -- row 4: bond code not 1, 2 or 3
   unfoldable pub bad_code : ℕ → Bool
@@ -78,13 +82,14 @@ module _ (r : Bytes) where
   unfoldable pub unreached : ℕ → Bool
   unreached v = not (has reached v)
 
-  -- check's answer: the first of rows 1 to 6 whose condition holds, else accepted
+  -- check's answer: the first of rows 1, 2, 3, 15, 4, 5 and 6 whose condition holds, else accepted
   unfoldable pub check : Answer
   check =
       row 1 (length r) bad_length
       (row 2 0 bad_counts
       (row_at 3 bad_element (atoms r)
+      (row_at 15 bad_class (atoms r)
       (row_at 4 bad_code (bonds r)
       (row_at 5 bad_ends (bonds r)
       (row_at 6 unreached (atoms r)
-      accepted)))))
+      accepted))))))

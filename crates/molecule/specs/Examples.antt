@@ -1,15 +1,16 @@
--- Worked examples of document 01's record and of rows 1 to 6, and of document 02's rounds, by computing.
+-- Worked examples of the record and of rows 1 to 6 and 15, and of document 02's rounds, by computing.
 use Rattle.std.specs.Prelude.{◌≡◌, refl, [], ◌∷◌, ◌++◌, ℕ, zero, suc, ◌^◌, set}
 use Rattle.std.proofs.Common.{arith}
 use Rattle.bitset.specs.Bits.{bit, diff, size_in, size, front, members_in, members_from, set_of, unions}
 use Rattle.molecule.specs.Lists.{Bytes, first_from, numbers_from}
 use Rattle.molecule.specs.Touch.{around, grow, reach, parts_in, parts, is_part, is_end, bonds_at, touching, component, components, connected, bonds_at_words, touching_words}
+use Rattle.molecule.specs.Unmarked.{natural}
 use Rattle.molecule.specs.Rounds.{grow_round, no_step, one_step, WithinSteps}
-use Rattle.molecule.specs.Check.{accepted, refused, row, row_at, bad_length, bad_counts, bad_element, bad_code, bad_ends, across, walk, reached, unreached, check}
+use Rattle.molecule.specs.Check.{accepted, refused, row, row_at, bad_length, bad_counts, bad_element, bad_class, bad_code, bad_ends, across, walk, reached, unreached, check}
 
 -- to unfold it is to unfold every definition: what a theorem by computing says
 unfoldable pub compute : Unit {0}
-unfolding bit diff size_in size front members_in members_from set_of unions first_from numbers_from around grow reach parts_in parts is_part is_end bonds_at touching component components connected bonds_at_words touching_words row row_at bad_length bad_counts bad_element bad_code bad_ends across walk reached unreached check
+unfolding bit diff size_in size front members_in members_from set_of unions first_from numbers_from around grow reach parts_in parts is_part is_end bonds_at touching component components connected bonds_at_words touching_words row row_at bad_length bad_counts bad_element bad_class bad_code bad_ends across walk reached unreached check
 compute = tt
 
 -- n times x
@@ -22,26 +23,30 @@ unfoldable pub chain_ends : ℕ → ℕ → Bytes
 chain_ends i zero = []
 chain_ends i (suc n) = i ∷ suc i ∷ chain_ends (suc i) n
 
--- the chain of n single bonds between carbons
+-- the chain of n single bonds between natural carbons
 unfoldable pub chain : ℕ → Bytes
-chain n = (suc n ∷ n ∷ []) ++ times (suc n) 6 ++ chain_ends 0 n ++ times n 1
+chain n = (suc n ∷ n ∷ []) ++ times (suc n) 6 ++ times (suc n) 1 ++ chain_ends 0 n ++ times n 1
 
--- check's answers: rows of the table, then slips in the chain of 4, whose ends start at byte 7 and whose codes at byte 15
+-- check's answers: rows of the table, then slips in the chain of 4, whose classes start at byte 7, ends at byte 12 and codes at byte 20
 pub record Checks : Type 0 where
-  pub triangle : check (4 ∷ 3 ∷ 6 ∷ 6 ∷ 6 ∷ 6 ∷ 0 ∷ 1 ∷ 1 ∷ 2 ∷ 2 ∷ 0 ∷ 1 ∷ 1 ∷ 1 ∷ []) ≡ refused 6 3
+  pub triangle : check (4 ∷ 3 ∷ 6 ∷ 6 ∷ 6 ∷ 6 ∷ 1 ∷ 1 ∷ 1 ∷ 1 ∷ 0 ∷ 1 ∷ 1 ∷ 2 ∷ 2 ∷ 0 ∷ 1 ∷ 1 ∷ 1 ∷ []) ≡ refused 6 3
   pub bondless : check (0 ∷ 0 ∷ []) ≡ refused 2 0
   pub empty : check [] ≡ refused 1 0
   pub most : check (chain 64) ≡ accepted
   pub too_many : check (chain 65) ≡ refused 2 0
   pub four : check (chain 4) ≡ accepted
-  pub long : check (chain 4 ++ (0 ∷ [])) ≡ refused 1 20
+  pub long : check (chain 4 ++ (0 ∷ [])) ≡ refused 1 25
   pub element : check (set (set (chain 4) 4 0) 6 255) ≡ refused 3 2
-  pub codes : check (set (set (chain 4) 16 0) 17 4) ≡ refused 4 1
-  pub code_first : check (set (set (chain 4) 8 5) 18 0) ≡ refused 4 3
-  pub ends : check (set (set (chain 4) 10 5) 14 5) ≡ refused 5 1
-  pub loop : check (set (chain 4) 14 3) ≡ refused 5 3
-  pub parallel : check (set (set (chain 4) 13 2) 14 3) ≡ refused 6 4
-  pub apart : check (3 ∷ 2 ∷ 6 ∷ 6 ∷ 6 ∷ 1 ∷ 2 ∷ 1 ∷ 2 ∷ 1 ∷ 1 ∷ []) ≡ refused 6 1
+  pub element_first : check (set (set (chain 4) 6 0) 7 0) ≡ refused 3 4
+  pub class : check (set (set (chain 4) 9 0) 11 255) ≡ refused 15 2
+  pub class_254 : check (set (chain 4) 8 254) ≡ accepted
+  pub class_first : check (set (set (chain 4) 7 255) 20 0) ≡ refused 15 0
+  pub codes : check (set (set (chain 4) 21 0) 22 4) ≡ refused 4 1
+  pub code_first : check (set (set (chain 4) 13 5) 23 0) ≡ refused 4 3
+  pub ends : check (set (set (chain 4) 15 5) 19 5) ≡ refused 5 1
+  pub loop : check (set (chain 4) 19 3) ≡ refused 5 3
+  pub parallel : check (set (set (chain 4) 18 2) 19 3) ≡ refused 6 4
+  pub apart : check (3 ∷ 2 ∷ 6 ∷ 6 ∷ 6 ∷ 1 ∷ 1 ∷ 1 ∷ 1 ∷ 2 ∷ 1 ∷ 2 ∷ 1 ∷ 1 ∷ []) ≡ refused 6 1
 
 pub checks : Checks
 unfolding compute times chain_ends chain
@@ -54,6 +59,10 @@ checks = record {
   four = refl;
   long = refl;
   element = refl;
+  element_first = refl;
+  class = refl;
+  class_254 = refl;
+  class_first = refl;
   codes = refl;
   code_first = refl;
   ends = refl;
@@ -86,3 +95,8 @@ round_by_round = record {
   two_steps = (2, omega arith, one_step {x = 1} (one_step no_step refl refl) refl refl);
   none = (0, omega arith, no_step);
 }
+
+-- a record without class bytes, and the same with a class byte 1 for each atom
+pub natural_two : natural (2 ∷ 1 ∷ 6 ∷ 8 ∷ 0 ∷ 1 ∷ 2 ∷ []) ≡ 2 ∷ 1 ∷ 6 ∷ 8 ∷ 1 ∷ 1 ∷ 0 ∷ 1 ∷ 2 ∷ []
+unfolding natural
+natural_two = refl

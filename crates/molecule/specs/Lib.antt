@@ -7,5 +7,7 @@ pub mod Verdict
 pub mod Connected
 pub mod Rounds
 pub mod Tree
+pub mod Graph
+pub mod Unmarked
 pub mod Inner
 pub mod Examples

@@ -1,12 +1,12 @@
--- What rows 1 to 6 say of a record, and what an accepted one is: a tree.
+-- What rows 1 to 6 and 15 say of a record, and what an accepted one is: a tree.
 use Rattle.std.specs.Prelude.{◌≡◌, ◌⊎◌, ◌≢◌, ℕ, ◌+◌, ◌*◌, ◌^◌, ◌≤◌, ◌<◌, length}
 use Rattle.bitset.specs.Bits.{bit, diff}
 use Rattle.molecule.specs.Lists.{Bytes}
-use Rattle.molecule.specs.Record.{atoms, bonds, element, end_a, end_b, code, all_bonds}
+use Rattle.molecule.specs.Record.{atoms, bonds, element, class, end_a, end_b, code, all_bonds}
 
 -- the bytes are there, and the counts are right (rows 1 and 2)
 pub record RightCounts (r : Bytes) : Type 0 where
-  pub long : length r ≡ 2 + atoms r + 3 * bonds r
+  pub long : length r ≡ 2 + 2 * atoms r + 3 * bonds r
   pub some : 1 ≤ bonds r
   pub few : bonds r ≤ 64
   pub count : atoms r ≡ bonds r + 1
@@ -29,6 +29,7 @@ pub data Walk (r : Bytes) (s u : ℕ) : ℕ → Type 0 where
 pub record Tree (r : Bytes) : Type 0 where
   pub formed : Formed r
   pub elements : (v : ℕ) → v < atoms r → (element r v ≢ 0) × (element r v ≢ 255)
+  pub classes : (v : ℕ) → v < atoms r → (class r v ≢ 0) × (class r v ≢ 255)
   pub codes : (i : ℕ) → i < bonds r → (1 ≤ code r i) × (code r i ≤ 3)
   pub all : (v : ℕ) → v < atoms r → Walk r (all_bonds r) 0 v
   pub one : (i j u v : ℕ) → i < bonds r → j < bonds r → Joins r i u v → Joins r j u v → i ≡ j

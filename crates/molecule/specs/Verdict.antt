@@ -2,13 +2,14 @@
 use Rattle.std.specs.Prelude.{ℕ, Result, Ok, Err}
 use Rattle.molecule.specs.Check.{Answer, accepted, refused}
 use Rattle.molecule.specs.declared.Fault.{Fault}
-use Rattle.molecule.specs.declared.Fault.TheVariants.{Length, Counts, Element, Code, Ends, Unreached}
+use Rattle.molecule.specs.declared.Fault.TheVariants.{Length, Counts, Element, Class, Code, Ends, Unreached}
 
 -- the row's number
 abbrev pub number_of : Fault → ℕ
 number_of (Length l) = 1
 number_of Counts = 2
 number_of (Element v) = 3
+number_of (Class v) = 15
 number_of (Code i) = 4
 number_of (Ends i) = 5
 number_of (Unreached v) = 6
@@ -18,6 +19,7 @@ abbrev pub place_of : Fault → ℕ
 place_of (Length l) = l
 place_of Counts = 0
 place_of (Element v) = v
+place_of (Class v) = v
 place_of (Code i) = i
 place_of (Ends i) = i
 place_of (Unreached v) = v

@@ -1,7 +1,7 @@
 // The fields of a record, a function for each. They take the bytes, and a clause says what must be known of them: check asks for fields before there
 // is a Molecule.
 ghost use Rattle.std.specs.Prelude.{◌≡◌, ◌≤◌, ◌<◌, length};
-ghost use Rattle.molecule.specs.Record.{atoms, bonds, element, end_a, end_b, code};
+ghost use Rattle.molecule.specs.Record.{atoms, bonds, element, class, end_a, end_b, code};
 ghost use Rattle.molecule.specs.Tree.{RightCounts};
 
 // The number of atoms.
@@ -28,6 +28,14 @@ pub fn element(bytes: &[u8], v: usize) -> u8
     bytes[2 + v]
 }
 
+// The class of atom v.
+pub fn class(bytes: &[u8], v: usize) -> u8
+    requires { RightCounts bytes.now × (v < atoms bytes.now) }
+    ensures { result ≡ class bytes.now v }
+{
+    bytes[2 + atoms(bytes) + v]
+}
+
 // The two ends of bond i, in the order written.
 pub fn ends(bytes: &[u8], i: usize) -> (usize, usize)
     requires { RightCounts bytes.now × (i < bonds bytes.now) }
@@ -35,8 +43,8 @@ pub fn ends(bytes: &[u8], i: usize) -> (usize, usize)
 {
     let a = atoms(bytes);
     (
-        usize::from(bytes[2 + a + 2 * i]),
-        usize::from(bytes[3 + a + 2 * i]),
+        usize::from(bytes[2 + 2 * a + 2 * i]),
+        usize::from(bytes[3 + 2 * a + 2 * i]),
     )
 }
 
@@ -45,5 +53,5 @@ pub fn code(bytes: &[u8], i: usize) -> u8
     requires { RightCounts bytes.now × (i < bonds bytes.now) }
     ensures { result ≡ code bytes.now i }
 {
-    bytes[2 + atoms(bytes) + 2 * bonds(bytes) + i]
+    bytes[2 + 2 * atoms(bytes) + 2 * bonds(bytes) + i]
 }

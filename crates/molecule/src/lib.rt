@@ -1,5 +1,5 @@
 #![tactic(auto)]
-// Molecules without rings: the record of document 01, check, and the graph of a record's bonds.
+// Molecules without rings: the record of document 01 with the class bytes of document 02, check, and the graph of a record's bonds.
 ghost use Rattle.std.specs.Prelude.{◌≡◌, ℕ, OnOk, OnErr};
 ghost use Rattle.molecule.specs.Tree.{RightCounts};
 ghost use Rattle.molecule.specs.Check.{check};
@@ -27,12 +27,13 @@ pub trait Refusal: Copy {
         ensures { result ≡ place_of self };
 }
 
-// Why a record is turned back: rows 1 to 6 of document 01, each with its place.
+// Why a record is turned back: rows 1 to 6 of document 01 and row 15 of document 02, each with its place.
 #[derive(Clone, Copy, Debug, PartialEq, Eq)]
 pub enum Fault {
     Length(usize),
     Counts,
     Element(usize),
+    Class(usize),
     Code(usize),
     Ends(usize),
     Unreached(usize),
@@ -50,6 +51,7 @@ impl Refusal for Fault {
             Fault::Length(_) => 1,
             Fault::Counts => 2,
             Fault::Element(_) => 3,
+            Fault::Class(_) => 15,
             Fault::Code(_) => 4,
             Fault::Ends(_) => 5,
             Fault::Unreached(_) => 6,
@@ -61,6 +63,7 @@ impl Refusal for Fault {
             Fault::Counts => 0,
             Fault::Length(p)
             | Fault::Element(p)
+            | Fault::Class(p)
             | Fault::Code(p)
             | Fault::Ends(p)
             | Fault::Unreached(p) => p as u64,
@@ -79,7 +82,7 @@ fn check_counts(bytes: &[u8]) -> Result<(), Fault>
     }
     let a = fields::atoms(bytes);
     let n = fields::bonds(bytes);
-    if length != 2 + a + 3 * n {
+    if length != 2 + 2 * a + 3 * n {
         return Err(Fault::Length(length));
     }
     if n == 0 || 64 < n || a != n + 1 {
@@ -88,13 +91,16 @@ fn check_counts(bytes: &[u8]) -> Result<(), Fault>
     Ok(())
 }
 
-// Whether the bytes are a record that is answered: the first of rows 1 to 6 whose condition holds, or accepted.
+// Whether the bytes are a record that is answered: the first of rows 1, 2, 3, 15, 4, 5 and 6 whose condition holds, or accepted.
 pub fn check(bytes: &[u8]) -> Result<(), Fault>
     ensures { answer_of result ≡ check bytes.now }
 {
     check_counts(bytes)?;
     if let Some(v) = rows::first_bad_element(bytes) {
         return Err(Fault::Element(v));
+    }
+    if let Some(v) = rows::first_bad_class(bytes) {
+        return Err(Fault::Class(v));
     }
     if let Some(i) = rows::first_bad_code(bytes) {
         return Err(Fault::Code(i));

@@ -1,16 +1,16 @@
-// The scans of rows 3 to 6: each answers the lowest number at fault, where there is one.
+// The scans of rows 3, 15, 4, 5 and 6: each answers the lowest number at fault, where there is one.
 // They take the bytes, and a clause that the counts are right, for the reason in fields.rt: check runs them before there is a Molecule.
 ghost use Rattle.std.specs.Prelude.{◌≡◌};
 ghost use Rattle.molecule.specs.Record.{atoms, bonds};
-ghost use Rattle.molecule.specs.Check.{wrong_element, wrong_code, wrong_ends, bad_element, bad_code, bad_ends, unreached};
+ghost use Rattle.molecule.specs.Check.{wrong_byte, wrong_code, wrong_ends, bad_element, bad_class, bad_code, bad_ends, unreached};
 ghost use Rattle.molecule.specs.Inner.Finding.{IsLowest};
 ghost use Rattle.molecule.specs.Tree.{RightCounts, Formed};
 
 use crate::{fields, graph};
 
-// An element code that row 3 turns back.
-fn wrong_element(e: u8) -> bool
-    ensures { result ≡ wrong_element e }
+// An element code that row 3 turns back, or a class that row 15 does.
+fn wrong_byte(e: u8) -> bool
+    ensures { result ≡ wrong_byte e }
 {
     e == 0 || e == 255
 }
@@ -35,7 +35,17 @@ pub fn first_bad_element(bytes: &[u8]) -> Option<usize>
     ensures { IsLowest (bad_element bytes.now) (atoms bytes.now) result }
 {
     let a = fields::atoms(bytes);
-    bytes[2..2 + a].iter().position(|e| wrong_element(*e))
+    bytes[2..2 + a].iter().position(|e| wrong_byte(*e))
+}
+
+// Row 15: the lowest atom with a wrong class.
+pub fn first_bad_class(bytes: &[u8]) -> Option<usize>
+    requires { RightCounts bytes.now }
+    ensures { IsLowest (bad_class bytes.now) (atoms bytes.now) result }
+{
+    let a = fields::atoms(bytes);
+    let from = 2 + a;
+    bytes[from..from + a].iter().position(|c| wrong_byte(*c))
 }
 
 // Row 4: the lowest bond with a wrong bond code.
@@ -44,7 +54,7 @@ pub fn first_bad_code(bytes: &[u8]) -> Option<usize>
     ensures { IsLowest (bad_code bytes.now) (bonds bytes.now) result }
 {
     let n = fields::bonds(bytes);
-    let from = 2 + fields::atoms(bytes) + 2 * n;
+    let from = 2 + 2 * fields::atoms(bytes) + 2 * n;
     bytes[from..from + n].iter().position(|c| wrong_code(*c))
 }
 

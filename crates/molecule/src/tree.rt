@@ -1,6 +1,6 @@
 // An accepted record as a molecule.
 ghost use Rattle.std.specs.Prelude.{◌≡◌, ◌<◌, IfOk, IfErr};
-ghost use Rattle.molecule.specs.Record.{atoms, bonds, element, end_a, end_b, code};
+ghost use Rattle.molecule.specs.Record.{atoms, bonds, element, class, end_a, end_b, code};
 ghost use Rattle.molecule.specs.Touch.{bonds_at_words, touching_words};
 ghost use Rattle.molecule.specs.Check.{check, accepted, refused};
 ghost use Rattle.molecule.specs.Verdict.{number_of, place_of};
@@ -54,6 +54,14 @@ impl Molecule<'_> {
         ensures { result ≡ element self.now.bytes.now v }
     {
         fields::element(self.bytes, v)
+    }
+
+    // The class of atom v.
+    pub fn class(&self, v: usize) -> u8
+        requires { v < atoms self.now.bytes.now }
+        ensures { result ≡ class self.now.bytes.now v }
+    {
+        fields::class(self.bytes, v)
     }
 
     // The two ends of bond i, in the order written.

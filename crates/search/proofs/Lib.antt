@@ -22,3 +22,4 @@ pub mod Striking
 pub mod Owing
 pub mod Fewest
 pub mod Score
+pub mod Reading

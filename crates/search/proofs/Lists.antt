@@ -77,6 +77,12 @@ module _ {A B : Type 0} (g : A → List B) where
       go (inl e) ih = mem_left (flat_map g P) (rw e at j)
       go (inr t) ih = mem_right (g q) (ih t)
 
+-- functions that agree at each element make one flat list
+pub flat_same : {A B : Type 0} (f g : A → List B) (l : List A) → ((x : A) → Mem x l → f x ≡ g x) → flat_map f l ≡ flat_map g l
+unfolding flat_map
+flat_same f g [] h = refl
+flat_same f g (x ∷ l) h = rw (h x (m_head refl), flat_same f g l (λ y m. h y (m_tail m))) refl
+
 -- ---- sums
 
 -- leaving elements out lowers a sum

@@ -1,5 +1,5 @@
 -- Demand 3: what score's answer says of the record, for every setting and every room.
--- Assumes of the record that rows 1 to 6 accept it, or that it is scored, from which that follows; nothing else.
+-- Assumes of the record that check accepts it, or that it is scored, from which that follows; nothing else.
 use mathlib.Core.Path.{◌≡◌, refl, sym, ap, ◌∙◌}
 use mathlib.Core.Bool.{Bool, true, false, ◌||◌}
 use mathlib.Core.Logic.{inl, inr}
@@ -41,7 +41,7 @@ use Rattle.search.proofs.Pathways.{series_pathway, series_length, one_bond}
 -- of an accepted record: no pathway has fewer joins than the least score, and the least score is the fewest joins
 pub use Rattle.search.proofs.Fewest.{pathway_series, fewest, least_is_fewest, fewest_is}
 
--- none of rows 1 to 8: rows 1 to 6 accept the record, and the trail has 64 numbers or more
+-- none of check's rows, 7 and 8: check accepts the record, and the trail has 64 numbers or more
 pub entry_says : (r : Bytes) (setting : Setting) (room : Room) → entry_answer r setting room ≡ accepted → (check r ≡ accepted) × (64 ≤ room.trail)
 unfolding entry_answer
 entry_says r setting room e = go (check r) refl
@@ -121,7 +121,7 @@ module _ (r : Bytes) (setting : Setting) (room : Room) (index matches states : �
   laws : Laws r (pairs r)
   laws = table_laws r it.ok
 
-  -- rows 1 to 6 accept the record
+  -- check accepts the record
   pub scored_accepted : check r ≡ accepted
   scored_accepted = it.ok
 

@@ -36,9 +36,13 @@ compute = tt
 abbrev pub oxygen : Bytes
 oxygen = set (chain 4) 6 8
 
+-- the chain of 4 with class k at its atom 1; the classes start at byte 7
+abbrev pub marked_chain : ℕ → Bytes
+marked_chain k = set (chain 4) 8 k
+
 -- a 4, n 3, bonds 0-1 1-2 2-0
 abbrev pub triangle : Bytes
-triangle = 4 ∷ 3 ∷ 6 ∷ 6 ∷ 6 ∷ 6 ∷ 0 ∷ 1 ∷ 1 ∷ 2 ∷ 2 ∷ 0 ∷ 1 ∷ 1 ∷ 1 ∷ []
+triangle = 4 ∷ 3 ∷ 6 ∷ 6 ∷ 6 ∷ 6 ∷ 1 ∷ 1 ∷ 1 ∷ 1 ∷ 0 ∷ 1 ∷ 1 ∷ 2 ∷ 2 ∷ 0 ∷ 1 ∷ 1 ∷ 1 ∷ []
 
 -- the star of n bonds, all carbon
 abbrev pub carbons : ℕ → Bytes
@@ -107,9 +111,11 @@ pub starred_rows : map (λ row. score_answer row.bytes row.setting row.room) sta
 unfolding compute
 starred_rows = refl
 
--- rows 7 and 8; row 8 with one number of trail less, one word of desk less; budget 0; memo on with no entry, where Int stops the root and where it does not
+-- a class 0, and a class 13, with which no two fragments of two bonds match; rows 7 and 8; row 8 with one number of trail less, one word of desk less; budget 0; memo on with no entry, where Int stops the root and where it does not
 pub other_rows :
-    score_answer (chain 4) (record { bounds = 4; memo = 0; budget = 9 }) ample
+    score_answer (marked_chain 0) usual ample
+    ∷ score_answer (marked_chain 13) usual ample
+    ∷ score_answer (chain 4) (record { bounds = 4; memo = 0; budget = 9 }) ample
     ∷ score_answer (chain 4) (record { bounds = 0; memo = 2; budget = 9 }) ample
     ∷ score_answer (chain 4) usual (record { trail = 63; p = parts_room 4096; pairs = 4096; memo = 0; desk = 4096 })
     ∷ score_answer (chain 4) usual (record { trail = 64; p = parts_room 4096; pairs = 4096; memo = 0; desk = 4095 })
@@ -117,7 +123,7 @@ pub other_rows :
     ∷ score_answer (chain 3) (record { bounds = 1; memo = 1; budget = 9 }) (lent 4096 4096 0)
     ∷ score_answer (chain 3) (record { bounds = 0; memo = 1; budget = 9 }) (lent 4096 4096 0)
     ∷ []
-    ≡ turned_back 7 0 ∷ turned_back 7 0 ∷ turned_back 8 0 ∷ turned_back 8 0 ∷ turned_back 11 0 ∷ scored 2 0 1 no_removal ∷ turned_back 12 1 ∷ []
+    ≡ turned_back 15 1 ∷ scored 3 0 1 no_removal ∷ turned_back 7 0 ∷ turned_back 7 0 ∷ turned_back 8 0 ∷ turned_back 8 0 ∷ turned_back 11 0 ∷ scored 2 0 1 no_removal ∷ turned_back 12 1 ∷ []
 unfolding compute
 other_rows = refl
 
@@ -140,17 +146,18 @@ eight_removals = refl
 abbrev pub lent_after : ScoreAnswer → List ℕ
 lent_after a = trail_after a (9 ∷ 9 ∷ []) ++ table_after a (5 ∷ 5 ∷ [])
 
--- rows 6 and 8 leave both as they were; after 9, 10, 11 and 12 the trail is as it was, and the table zero
+-- rows 6, 8 and 15 leave both as they were; after 9, 10, 11 and 12 the trail is as it was, and the table zero
 pub lent_after_refusals :
     map lent_after
     (score_answer triangle usual ample
     ∷ turned_back 8 0
+    ∷ score_answer (marked_chain 255) usual ample
     ∷ score_answer (chain 4) usual (lent 71 4096 0)
     ∷ turned_back 10 1
     ∷ turned_back 11 1
     ∷ turned_back 12 2
     ∷ [])
-    ≡ replicate 2 (9 ∷ 9 ∷ 5 ∷ 5 ∷ []) ++ replicate 4 (9 ∷ 9 ∷ 0 ∷ 0 ∷ [])
+    ≡ replicate 3 (9 ∷ 9 ∷ 5 ∷ 5 ∷ []) ++ replicate 4 (9 ∷ 9 ∷ 0 ∷ 0 ∷ [])
 unfolding compute
 lent_after_refusals = refl
 

@@ -2,8 +2,6 @@
 use mathlib.Core.Path.{◌≡◌, refl, sym, ap, ◌∙◌}
 use mathlib.Core.Logic.{◌⊎◌, inl, inr, ◌≢◌}
 use mathlib.Core.Bool.{true, false}
-use mathlib.Core.List.Memᴰ.{head as m_head}
-use mathlib.Core.List.Memᴰ.{tail as m_tail}
 use mathlib.Core.List.{List, [], ◌∷◌, ◌++◌, flat_map, append_assoc, append-nil, Memᴰ as Mem}
 use Prim.Native.Nat.{ℕ, ◌+◌, ◌-◌, ◌*◌, ◌^◌, ◌≤◌, ◌<◌}
 use native.Mathlib.Omega.{arith}
@@ -28,6 +26,7 @@ use Rattle.bounds.specs.Numbers.{sum_of}
 use Rattle.matches.specs.Table.{Pair, size_of}
 use Rattle.search.specs.Trail.{Trail, with_removal}
 use Rattle.search.specs.State.{State, big_components, keep, remove, child}
+use Rattle.search.proofs.Lists.{flat_same}
 use Rattle.state.specs.Inner.Pieces.{big_parts, fallen, Big, Owned, OwnedFragments, Chosen}
 
 -- ---- the big components
@@ -171,11 +170,6 @@ module _ {A B : Type 0} where
   unfolding flat_map
   flat_append f [] l = refl
   flat_append f (x ∷ k) l = ap (λ (z : List B). f x ++ z) (flat_append f k l) ∙ sym (append_assoc (f x) (flat_map f k) (flat_map f l))
-
-  pub flat_same : (f g : A → List B) (l : List A) → ((x : A) → Mem x l → f x ≡ g x) → flat_map f l ≡ flat_map g l
-  unfolding flat_map
-  flat_same f g [] h = refl
-  flat_same f g (x ∷ l) h = rw (h x (m_head refl), flat_same f g l (λ y m. h y (m_tail m)))
 
 pub flat_next : (f : ℕ → List ℕ) (l : List ℕ) (i : ℕ) → i < length l → flat_map f (take (i + 1) l) ≡ flat_map f (take i l) ++ f (get_or l i 0)
 unfolding flat_map

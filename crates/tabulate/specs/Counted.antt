@@ -1,4 +1,4 @@
--- Document 01, 'Answers and turned-back records': rows 1 to 6, then 9 and 10, as `count` answers them, and what it leaves in the lent tables.
+-- Document 01, 'Answers and turned-back records': check's rows, then 9 and 10, as `count` answers them, and what it leaves in the lent tables.
 use Rattle.std.specs.Prelude.{List, ℕ, length, replicate, Result, Ok, Err}
 use Rattle.molecule.specs.Lists.{Bytes}
 use Rattle.molecule.specs.Check.{accepted, refused, check}
@@ -17,7 +17,7 @@ abbrev pub value : TableAnswer → ℕ
 value (counted n) = n
 value (turned_back k p) = p
 
--- rows 1 to 6, then those of the table, for P and the length of pairs in words
+-- check's rows, then those of the table, for P and the length of pairs in words
 unfoldable pub count_for : Bytes → ℕ → ℕ → TableAnswer
 count_for r p pairs = elim (check r) [
   | accepted ↦ build_answer r p pairs
@@ -32,7 +32,7 @@ count_by each r parts pairs = count_for r (capacity each parts) pairs
 abbrev pub count_answer : Bytes → ℕ → ℕ → TableAnswer
 count_answer = count_by parts_each
 
--- a lent table afterwards: on rows 1 to 6 nothing changes, else every word is zero
+-- a lent table afterwards: on check's rows nothing changes, else every word is zero
 unfoldable pub table_after : Bytes → List ℕ → List ℕ
 table_after r words = elim (check r) [
   | accepted ↦ replicate (length words) 0

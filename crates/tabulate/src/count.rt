@@ -6,7 +6,7 @@ use crate::build;
 use crate::build::Full;
 use molecule::{Fault, Molecule, Refusal};
 
-// Why matches are not counted: rows 1 to 6 of document 01, the record; 9 and 10, a table.
+// Why matches are not counted: check's rows, the record; 9 and 10, a table.
 #[derive(Clone, Copy, Debug, PartialEq, Eq)]
 pub enum CountRefusal {
     Record(Fault),

@@ -12,11 +12,11 @@ returns-then-not-is_fragment c =
     let w = answer_refused m.bytes.now a.set a.out.now 13 0 v in
     record { answer = w.0; buffer = w.1 }
 
-pub returns-then-out-lt389 : goal.returns-then-out-lt389
-returns-then-out-lt389 c =
+pub returns-then-out-lt454 : goal.returns-then-out-lt454
+returns-then-out-lt454 c =
     let a = c.args in
     let m = a.molecule.now in
-    let v = buffer_row m.bytes.now a.set a.out.now m.accepted (not-true _ (sym c.if-not-is_fragment.ensures)) c.if-out-lt389.true in
+    let v = buffer_row m.bytes.now a.set a.out.now m.accepted (not-true _ (sym c.if-not-is_fragment.ensures)) c.if-out-lt454.true in
     let w = answer_refused m.bytes.now a.set a.out.now 14 0 v in
     record { answer = w.0; buffer = w.1 }
 
@@ -24,6 +24,6 @@ pub returns : goal.returns
 returns c =
     let a = c.args in
     let m = a.molecule.now in
-    let v = no_row m.bytes.now a.set a.out.now m.accepted (not-true _ (sym c.if-not-is_fragment.ensures)) c.if-out-lt389.false in
+    let v = no_row m.bytes.now a.set a.out.now m.accepted (not-true _ (sym c.if-not-is_fragment.ensures)) c.if-out-lt454.false in
     let w = answer_label m.bytes.now a.set a.out.now v _ _ c.label_out.ensures in
     record { answer = w.0; buffer = w.1 }

@@ -1,5 +1,5 @@
 -- Strings written at places of a buffer, and of the slate: what is written there, and where it may be written.
-use Rattle.std.specs.Prelude.{◌≡◌, ◌⊎◌, ◌≢◌, true, false, [], ◌∷◌, ◌++◌, ℕ, ◌+◌, ◌*◌, ◌≤◌, ◌<◌, length, take, drop}
+use Rattle.std.specs.Prelude.{◌≡◌, ◌⊎◌, ◌≢◌, true, false, ◌++◌, ℕ, ◌+◌, ◌*◌, ◌≤◌, ◌<◌, length, take, drop}
 use Rattle.bitset.specs.Bits.{bit, Sub}
 use Rattle.molecule.specs.Lists.{Bytes}
 use Rattle.canonize.specs.Strings.{lex_le}
@@ -21,8 +21,8 @@ NoneShared from n to m = (from + n ≤ to) ⊎ (to + m ≤ from)
 -- the n bytes from a place on are bytes of the string of slot t
 pub record InSlot (t place n : ℕ) : Type 0 where
   pub within : t < 66
-  pub from : 391 * t + 2 ≤ place
-  pub to : place + n ≤ 391 * t + 391
+  pub from : 456 * t + 2 ≤ place
+  pub to : place + n ≤ 456 * t + 456
 
 -- they are bytes of a slot that is none of the set's
 pub record FreeSlot (set place n : ℕ) : Type 0 where
@@ -47,8 +47,8 @@ pub record Least (string : ℕ → Bytes) (set i : ℕ) : Type 0 where
   pub member : bit set i ≡ 1
   pub first : (j : ℕ) → bit set j ≡ 1 → lex_le (string i) (string j) ≡ true
 
--- t are the members of the set whose strings the one byte e comes before, or is equal to
-pub record After (string : ℕ → Bytes) (set e t : ℕ) : Type 0 where
+-- t are the members of the set whose strings x comes before, or is equal to
+pub record After (string : ℕ → Bytes) (set : ℕ) (x : Bytes) (t : ℕ) : Type 0 where
   pub within : Sub t set
-  pub yes : (j : ℕ) → bit t j ≡ 1 → lex_le (e ∷ []) (string j) ≡ true
-  pub no : (j : ℕ) → bit set j ≡ 1 → bit t j ≡ 0 → lex_le (e ∷ []) (string j) ≡ false
+  pub yes : (j : ℕ) → bit t j ≡ 1 → lex_le x (string j) ≡ true
+  pub no : (j : ℕ) → bit set j ≡ 1 → bit t j ≡ 0 → lex_le x (string j) ≡ false

@@ -3,10 +3,10 @@ use Rattle.std.specs.Prelude.{◌≡◌, Bool, ◌&&◌, ◌||◌, List, [], ◌
 use Rattle.std.specs.Int.Bits.{bit_and}
 use Rattle.bitset.specs.Bits.{bit, has, diff, size, members, set_of}
 use Rattle.molecule.specs.Lists.{Bytes, pick}
-use Rattle.molecule.specs.Record.{bonds, element, end_a, end_b, code}
+use Rattle.molecule.specs.Record.{bonds, end_a, end_b, code}
 use Rattle.molecule.specs.Touch.{bonds_at}
 use Rattle.canonize.specs.Strings.{collapse}
-use Rattle.canonize.specs.Fragment.{own_string}
+use Rattle.canonize.specs.Label.{own_string}
 use Rattle.canonize.specs.Inner.Slate.{slot, Slots}
 
 module _ (r : Bytes) where
@@ -34,7 +34,7 @@ module _ (r : Bytes) where
 
   -- the strings of a present atom: its own, and those handed to it
   unfoldable pub strings_at : ℕ → ℕ → (ℕ → Bytes) → ℕ → List Bytes
-  strings_at s L X v = own_string (element r) v ∷ map X (members (received s L v))
+  strings_at s L X v = own_string r v ∷ map X (members (received s L v))
 
   -- what bond i hands over from its end v
   abbrev pub handed : ℕ → ℕ → (ℕ → Bytes) → ℕ → ℕ → Bytes
@@ -46,7 +46,7 @@ module _ (r : Bytes) where
 
 -- the strings of the bonds of L fit: what a present end atom hands over
 abbrev pub Fits : Bytes → ℕ → ℕ → (ℕ → Bytes) → Type 0
-Fits r s L X = (i : ℕ) → bit (outer r L) i ≡ 1 → length (handed r s L X i (tip r L i)) ≤ 389
+Fits r s L X = (i : ℕ) → bit (outer r L) i ≡ 1 → length (handed r s L X i (tip r L i)) ≤ 454
 
 -- the slate after a round: each bond taken off has handed over, the slots of bonds that are not left are as they were
 pub record Round (r : Bytes) (s L : ℕ) (old now : Bytes) : Type 0 where

@@ -9,4 +9,4 @@ pub returns : goal.returns
 unfolding bad_code
 returns c =
     rw (← c.bonds-n.ensures.0, ← c.atoms.ensures.0)
-    (lowest_by_position wrong_code c.args.bytes.now (2 + c.atoms.result + 2 * c.bonds-n.result) c.bonds-n.result _ _ _ _ c.position.ensures.ran c.iter.ensures.rest (λ x b h k. search (rules, tests)) (omega (arith, c.requires.long)))
+    (lowest_by_position wrong_code c.args.bytes.now (2 + 2 * c.atoms.result + 2 * c.bonds-n.result) c.bonds-n.result _ _ _ _ c.position.ensures.ran c.iter.ensures.rest (λ x b h k. search (rules, tests)) (omega (arith, c.requires.long)))

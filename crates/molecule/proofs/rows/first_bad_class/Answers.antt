@@ -1,0 +1,12 @@
+-- The closure answers row 15's test of a class.
+use Rattle.std.proofs.Common.{◌+◌, rules, arith}
+use borrow.Author.Tests.{tests}
+use Rattle.molecule.specs.Check.{wrong_byte, bad_class}
+use Rattle.molecule.proofs.Lowest.{lowest_by_position}
+use Rattle.molecule.proofs.rows.first_bad_class.Goals as goal
+
+pub returns : goal.returns
+unfolding bad_class
+returns c =
+    rw (← c.atoms-a.ensures.0)
+    (lowest_by_position wrong_byte c.args.bytes.now (2 + c.atoms-a.result) c.atoms-a.result _ _ _ _ c.position.ensures.ran c.iter.ensures.rest (λ x b h k. search (rules, tests)) (omega (arith, c.requires.long)))
