@@ -2,13 +2,11 @@
 use mathlib.Core.Path.{◌≡◌, refl, sym, ap, subst, ◌∙◌}
 use mathlib.Core.Logic.{◌⊎◌, inl, inr}
 use mathlib.Core.Bool.{Bool, true, false, ◌&&◌}
-use mathlib.Core.List.Memᴰ.{append_cases as mem_cases}
 use mathlib.Core.List.Memᴰ.{cases_cons as mem_cons}
-use mathlib.Core.List.Memᴰ.{eq_of_singleton as mem_one}
 use mathlib.Core.List.Memᴰ.{head as m_head}
 use mathlib.Core.List.Memᴰ.{not-nil}
 use mathlib.Core.List.Memᴰ.{tail as m_tail}
-use mathlib.Core.List.{List, [], ◌∷◌, flat_map, Memᴰ as Mem}
+use mathlib.Core.List.{List, [], ◌∷◌, Memᴰ as Mem}
 use Prim.Native.Nat.{ℕ, zero, suc, ◌+◌, ◌-◌, ◌*◌, ◌/◌, ◌^◌, ◌≤◌, ◌<◌}
 use native.Mathlib.Omega.{arith}
 use native.Mathlib.Nat.{sub-zero}
@@ -22,7 +20,7 @@ use Rattle.std.specs.List.{AllWithin}
 use Rattle.std.specs.List.Sorted.{IsPartitionedBy}
 use Rattle.std.proofs.lemmas.List.{get_or_default}
 use Rattle.matches.specs.Inner.Written.{four_words}
-use Rattle.bitset.specs.Bits.{Sub, size, diff, unions}
+use Rattle.bitset.specs.Bits.{Sub, size, unions}
 use Rattle.bitset.proofs.Bools.{two, and_true}
 use Rattle.bitset.proofs.Laws.{size_mono, size_diff, size_disjoint}
 use Rattle.bitset.proofs.Decide.{sets, v, and, or, sub}
@@ -41,12 +39,12 @@ use Rattle.matches.specs.Table.{Pair, pair, size_of, pairs}
 use Rattle.matches.specs.Laws.{Laws}
 use Rattle.matches.proofs.Laws.{table_laws, size_of_first, size_of_second, size_of_two, size_of_half}
 use Rattle.search.specs.Setting.{Setting, has_matchable_edges}
-use Rattle.search.specs.State.{State, inside, struck, big_components, removable, mask_of, keep, remove, child}
+use Rattle.search.specs.State.{State, inside, struck, removable, mask_of, keep, child}
 use Rattle.search.specs.Search.{tried}
 use Rattle.search.specs.Inner.Claims.{Removable, Fine, held_of}
-use Rattle.search.proofs.Lists.{inside_true, refines_within, flat_mem}
-use Rattle.search.proofs.Parts.{few, big_is}
-use Rattle.search.proofs.Refine.{diff_within, and_within, first_struck, removable_mem, keep_refines, letting_go, mask_within}
+use Rattle.search.proofs.Lists.{inside_true, refines_within}
+use Rattle.search.proofs.Parts.{few}
+use Rattle.search.proofs.Refine.{first_struck, removable_mem, remove_fragments, keep_fragments, keep_refines, letting_go, mask_within}
 use Rattle.search.proofs.Ends.{count_two, keep_size, child_fine, child_falls, child_two}
 use Rattle.state.specs.declared.State as code
 use Rattle.state.specs.Inner.Views.{state_of}
@@ -259,12 +257,8 @@ module _ (r : Bytes) (ok : check r ≡ accepted) (s : State) (F : Fine r (pairs 
 
   -- what the state holds
   held_part : (c : ℕ) → Mem c (held_of r (pairs r) s) → Connected r c × (2 ≤ size c)
-  unfolding keep
   held_part c i =
-      let U : ℕ = mask_of r (pairs r) (removable r (pairs r) s.pieces s.next) 2 in
-      let w = flat_mem (λ p. big_components r (bit_and p U)) s.pieces c i in
-      let q = big_is r ok (bit_and w.0 U) (and_within w.0 U (all_bonds r) (F.inv.within w.0 w.1)) c w.2 in
-      (q.0, q.2)
+      let w = keep_fragments r ok (pairs r) (mask_of r (pairs r) (removable r (pairs r) s.pieces s.next) 2) s.pieces F.inv.within c i in (w.1, w.2)
 
   held_within : PiecesWithin (all_bonds r) (held_of r (pairs r) s)
   held_within = refines_within (all_bonds r) (keep_refines r ok (pairs r) (mask_of r (pairs r) (removable r (pairs r) s.pieces s.next) 2) s.pieces F.inv.within) F.inv.within
@@ -300,17 +294,10 @@ module _ (r : Bytes) (ok : check r ≡ accepted) (s : State) (F : Fine r (pairs 
     trail_left = let c = child_falls r ok (pairs r) (table_laws r ok) s m F.inv k in omega (arith, c.0, c.1, F.weight, few r ok)
 
     child_part : (p : ℕ) → Mem p (child r (pairs r) s (held_of r (pairs r) s) m).pieces → Connected r p
-    unfolding child remove
-    child_part p i = go (mem_cases (flat_map g (held_of r (pairs r) s)) i)
-      where
-        g : ℕ → List ℕ
-        g q = big_components r (diff q (struck (pairs r) m))
-
-        go : Mem p (flat_map g (held_of r (pairs r) s)) ⊎ Mem p ((pair (pairs r) m).h1 ∷ []) → Connected r p
-        go (inl j) =
-            let w = flat_mem g (held_of r (pairs r) s) p j in
-            (big_is r ok (diff w.0 (struck (pairs r) m)) (diff_within w.0 (struck (pairs r) m) (all_bonds r) (held_within w.0 w.1)) p w.2).0
-        go (inr j) = let e : p ≡ (pair (pairs r) m).h1 = mem_one j in rw e ((table_laws r ok).twins m k.is).one
+    unfolding child
+    child_part p i =
+        let t = (table_laws r ok).twins m k.is in
+        (remove_fragments r ok (pairs r) (held_of r (pairs r) s) m held_within t.one_own t.one p i).1
 
     next_is : (child r (pairs r) s (held_of r (pairs r) s) m).next ≡ suc m
     unfolding child

@@ -3,13 +3,12 @@
 use mathlib.Core.Path.{◌≡◌, refl, sym, ap, ap₂, ◌∙◌}
 use mathlib.Core.Bool.{Bool, true, false, ◌&&◌, ◌||◌}
 use mathlib.Core.Logic.{◌⊎◌, inl, inr, ◌↔◌, ⊎_elim}
-use mathlib.Core.List.Memᴰ.{append_cases as mem_cases}
 use mathlib.Core.List.Memᴰ.{cases_cons as mem_cons}
 use mathlib.Core.List.Memᴰ.{eq_of_singleton as mem_one}
 use mathlib.Core.List.Memᴰ.{head as m_head}
 use mathlib.Core.List.Memᴰ.{not-nil}
 use mathlib.Core.List.Memᴰ.{tail as m_tail}
-use mathlib.Core.List.{List, [], ◌∷◌, ◌++◌, map, flat_map, Memᴰ as Mem}
+use mathlib.Core.List.{List, [], ◌∷◌, ◌++◌, map, Memᴰ as Mem}
 use Prim.Native.Nat.{ℕ, zero, suc, ◌-◌, ◌^◌, ◌<◌, min}
 use native.Mathlib.Omega.{arith}
 use lib.Bits.{bit_and}
@@ -39,6 +38,7 @@ use Rattle.matches.specs.Rows.{table_answer}
 use Rattle.matches.specs.Laws.{Laws}
 use Rattle.matches.specs.Reading.{ReadAlike}
 use Rattle.matches.proofs.Laws.{table_laws, read_back, unmarked_alike, match_table_alike, pairs_alike}
+use Rattle.bounds.specs.Inner.Removals.{PiecesWithin}
 use Rattle.search.specs.Setting.{Setting, Room, has_memo, memo_room}
 use Rattle.search.specs.Trail.{Trail, no_removal}
 use Rattle.search.specs.State.{State, struck, root, big_components, removable, mask_of, keep, remove, child}
@@ -49,9 +49,9 @@ use Rattle.search.specs.Pathway.{Join, union, is_pathway_after, is_pathway, IsFe
 use Rattle.search.specs.Answer.{entry_answer, turned_back, searched, score_answer}
 use Rattle.search.specs.Inner.Claims.{held_of}
 use Rattle.search.specs.Inner.Joining.{Ready, JoinAfter, JoinsAfter}
-use Rattle.search.proofs.Lists.{flat_mem, flat_same}
-use Rattle.search.proofs.Parts.{few, big_is}
-use Rattle.search.proofs.Refine.{and_left, removable_mem}
+use Rattle.search.proofs.Lists.{flat_same}
+use Rattle.search.proofs.Parts.{few}
+use Rattle.search.proofs.Refine.{and_left, removable_mem, remove_fragments, keep_fragments}
 use Rattle.search.proofs.TrailClaim.{tried_removable}
 use Rattle.search.proofs.Tests.{joins_test, joins_of}
 use Rattle.search.proofs.Fragments.{meets_in, meets_has}
@@ -71,27 +71,18 @@ module _ (r : Bytes) (ok : check r ≡ accepted) (ms : List Pair) (M : Laws r ms
   diff_own : (p s : ℕ) → Own r p → Own r (diff p s)
   diff_own p s = own_sub r (diff p s) p (diff_sub p s)
 
-  big_fragments : (s : ℕ) → Own r s → Fragments r (big_components r s)
-  big_fragments s o c i = let w = big_is r ok s (own_all r s o) c i in (own_sub r c s w.1 o, w.0)
+  within : (P : List ℕ) → Fragments r P → PiecesWithin (all_bonds r) P
+  within P h p i = own_all r p (h p i).0
 
-  keep_fragments : (U : ℕ) (P : List ℕ) → Fragments r P → Fragments r (keep r ms U P)
-  unfolding keep
-  keep_fragments U P h c i = let w = flat_mem (λ p. big_components r (bit_and p U)) P c i in big_fragments (bit_and w.0 U) (and_own w.0 U (h w.0 w.1).0) c w.2
+  held_fragments : (U : ℕ) (P : List ℕ) → Fragments r P → Fragments r (keep r ms U P)
+  held_fragments U P h c i = let w = keep_fragments r ok ms U P (within P h) c i in (w.0, w.1)
 
-  remove_fragments : (P : List ℕ) (m : ℕ) → m < length ms → Fragments r P → Fragments r (remove r ms P m)
-  unfolding remove
-  remove_fragments P m l h c i = go (mem_cases (flat_map g P) i)
-    where
-      g : ℕ → List ℕ
-      g p = big_components r (diff p (struck ms m))
-
-      go : Mem c (flat_map g P) ⊎ Mem c ((pair ms m).h1 ∷ []) → Own r c × Connected r c
-      go (inl j) = let w = flat_mem g P c j in big_fragments (diff w.0 (struck ms m)) (diff_own w.0 (struck ms m) (h w.0 w.1).0) c w.2
-      go (inr j) = let e : c ≡ (pair ms m).h1 = mem_one j in let t = M.twins m l in rw e (t.one_own, t.one)
+  left_fragments : (P : List ℕ) (m : ℕ) → m < length ms → Fragments r P → Fragments r (remove r ms P m)
+  left_fragments P m l h = let t = M.twins m l in remove_fragments r ok ms P m (within P h) t.one_own t.one
 
   child_fragments : (s : State) (held : List ℕ) (m : ℕ) → m < length ms → Fragments r held → Fragments r (child r ms s held m).pieces
   unfolding child
-  child_fragments s held m = remove_fragments held m
+  child_fragments s held m = left_fragments held m
 
   all_fragments : Fragments r (all_bonds r ∷ [])
   all_fragments p i = let e : p ≡ all_bonds r = mem_one i in rw e (omega (arith, pow_pos (bonds r)), all_connected r ok)
@@ -163,7 +154,7 @@ module _ (r : Bytes) (ok : check r ≡ accepted) (ms : List Pair) (M : Laws r ms
           let U : ℕ = mask_of r ms (removable r ms s.pieces s.next) 2 in
           let ns : List ℕ = tried r ms setting room s (removable r ms s.pieces s.next) run.best in
           ap lower
-          (children_alike one other E s (held_of r ms s) (keep_fragments U s.pieces h) ns (λ m i. (tried_removable r ms setting room s run.best m i).is) s.index s.trail run
+          (children_alike one other E s (held_of r ms s) (held_fragments U s.pieces h) ns (λ m i. (tried_removable r ms setting room s run.best m i).is) s.index s.trail run
           ∙ ap (λ (held : List ℕ). children q ms setting room other s held ns s.index s.trail run) (keep_alike U s.pieces h))
 
       counted_alike : (one other : State → Run → Outcome) → EntersAlike one other → (s : State) → Fragments r s.pieces → (run : Run) → counted r ms setting room one s run ≡ counted q ms setting room other s run
@@ -208,7 +199,7 @@ module _ (r : Bytes) (ok : check r ≡ accepted) (ms : List Pair) (M : Laws r ms
         ap (λ (l : List (List ℕ)). [] ∷ l)
         (flat_same (λ m. map (λ τ. m ∷ τ) (series_from r ms f (suc m) (remove r ms P m))) (λ m. map (λ τ. m ∷ τ) (series_from q ms f (suc m) (remove q ms P m))) (removable r ms P n)
         (λ m i. ap (map (λ τ. m ∷ τ))
-        (series_from_alike f (suc m) (remove r ms P m) (remove_fragments P m (removable_mem r ms P n m i).is h) ∙ ap (series_from q ms f (suc m)) (remove_alike P m h))))
+        (series_from_alike f (suc m) (remove r ms P m) (left_fragments P m (removable_mem r ms P n m i).is h) ∙ ap (series_from q ms f (suc m)) (remove_alike P m h))))
 
     -- the same series are allowed
     pub all_series_alike : all_series r ms ≡ all_series q ms

@@ -26,7 +26,8 @@ use Rattle.bitset.proofs.Decide.{sets, v, and, less, or, sub, apart}
 use Rattle.molecule.specs.Lists.{Bytes, numbers_from, filter}
 use Rattle.molecule.specs.Record.{all_bonds}
 use Rattle.molecule.specs.Check.{accepted, check}
-use Rattle.molecule.specs.Connected.{Connected, Apart}
+use Rattle.molecule.specs.Connected.{Own, Connected, Apart}
+use Rattle.molecule.proofs.Components.{all_own}
 use Rattle.molecule.proofs.Perms.{keep_mem, keep_intro}
 use Rattle.molecule.proofs.Lists.{numbers_bounds, numbers_mem}
 use Rattle.matches.specs.Table.{Pair, pair, size_of}
@@ -183,6 +184,19 @@ module _ (r : Bytes) (ok : check r ≡ accepted) (ms : List Pair) where
   pub remove_within : (P : List ℕ) (m : ℕ) → PiecesWithin (all_bonds r) P → InOnePiece (pair ms m).h1 P → PiecesWithin (all_bonds r) (remove r ms P m)
   remove_within P m W h = refines_within (all_bonds r) (remove_shrinks P m W h) W
 
+  -- and where the first fragment of the match is one, they are fragments
+  pub remove_fragments : (P : List ℕ) (m : ℕ) → PiecesWithin (all_bonds r) P → Own r (pair ms m).h1 → Connected r (pair ms m).h1
+      → (c : ℕ) → Mem c (remove r ms P m) → Own r c × Connected r c
+  remove_fragments P m W o k c i = go (remove_cases r ms P m c i)
+    where
+      go : Left r ms P m c ⊎ (c ≡ (pair ms m).h1) → Own r c × Connected r c
+      go (inl w) =
+          let d : ℕ = diff w.0 (struck ms m) in
+          let within : Sub d (all_bonds r) = diff_within w.0 (struck ms m) (all_bonds r) (W w.0 w.1) in
+          let q = big_is r ok d within c w.2 in
+          (all_own r c (sub_trans c d (all_bonds r) q.1 within), q.0)
+      go (inr e) = rw e (o, k)
+
   -- a fragment of two bonds or more that misses both fragments of a match stays inside a piece
   pub remove_keeps : (P : List ℕ) (m y : ℕ) → PiecesWithin (all_bonds r) P → Connected r y → 2 ≤ size y → Disjoint y (pair ms m).h1 → Disjoint y (pair ms m).h2
       → InOnePiece y P → InOnePiece y (remove r ms P m)
@@ -235,6 +249,15 @@ module _ (r : Bytes) (ok : check r ≡ accepted) (ms : List Pair) where
       let w = flat_mem (λ p. big_components r (bit_and p U)) P c i in
       let q = big_is r ok (bit_and w.0 U) (and_within w.0 U (all_bonds r) (W w.0 w.1)) c w.2 in
       (w.0, w.1, sub_trans c (bit_and w.0 U) w.0 q.1 (and_left w.0 U))
+
+  -- and is made of fragments of two bonds or more
+  pub keep_fragments : (U : ℕ) (P : List ℕ) → PiecesWithin (all_bonds r) P → (c : ℕ) → Mem c (keep r ms U P) → Own r c × Connected r c × (2 ≤ size c)
+  unfolding keep
+  keep_fragments U P W c i =
+      let w = flat_mem (λ p. big_components r (bit_and p U)) P c i in
+      let within : Sub (bit_and w.0 U) (all_bonds r) = and_within w.0 U (all_bonds r) (W w.0 w.1) in
+      let q = big_is r ok (bit_and w.0 U) within c w.2 in
+      (all_own r c (sub_trans c (bit_and w.0 U) (all_bonds r) q.1 within), q.0, q.2)
 
   -- and serves them over the bonds that are kept
   keep_serves : (U : ℕ) (P : List ℕ) → PiecesWithin (all_bonds r) P → KeepsFragments r U (keep r ms U P) P
