@@ -161,10 +161,10 @@ static void hold(const struct table *table, int cleared, uint64_t lent)
 }
 
 /* The trail after a score with k removals: two arrays of 32, in each k numbers that the call has written and then zeros. Sizes are two at
- * least, and bonds less one is index plus the sum of (size less one). Later numbers are as they were filled. */
+ * least, and bonds less one, or 0 of a lone atom, is index plus the sum of (size less one). Later numbers are as they were filled. */
 static void hold_scored(const uint32_t *trail, struct pazgelk_score reply, uint32_t bonds)
 {
-    uint64_t sum = (uint64_t)reply.index + 1;
+    uint64_t sum = reply.index;
     if (reply.length > ARRAY)
         broken("trail", reply.length, "past the first 32");
     for (size_t i = 0; i < TRAIL; i++) {
@@ -179,7 +179,7 @@ static void hold_scored(const uint32_t *trail, struct pazgelk_score reply, uint3
             broken("trail", i, "no size");
         sum += trail[i] - 1;
     }
-    if (sum != bonds)
+    if (sum != (bonds == 0 ? 0 : bonds - 1))
         broken("trail", ARRAY, "not a size that fits the index");
 }
 

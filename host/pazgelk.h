@@ -44,9 +44,10 @@ struct pazgelk_score {
  * parts has room for P = parts_words / 12 sets of bonds, pairs for pairs_words / 4 matches, and memo_table for memo_words / 80 states, all
  * rounded down; with memo 0 memo_words may be 0. What trail and tables hold before does not matter.
  * Afterwards: of a score the trail has two arrays of 32, one after the other: the numbers of the length matches removed, from 0, and the
- * sizes of their fragments, in bonds, from 32; the rest of either is 0, and numbers from 64 on are untouched. Bonds less one is index plus
- * the sum of (size less one). On a row the trail is untouched. On rows 1 to 8 and 15 the four tables are untouched, otherwise every word
- * of them is 0. */
+ * sizes of their fragments, in bonds, from 32; the rest of either is 0, and numbers from 64 on are untouched. Where there is a bond, bonds
+ * less one is index plus the sum of (size less one). A lone atom is scored 0, with 0 matches, states and removals, whatever the budget and
+ * the four tables. On a row the trail is untouched. On rows 1 to 8 and 15 the four tables are untouched, otherwise every word of them is
+ * 0. */
 struct pazgelk_score assembly_score(const uint8_t *record, size_t length, uint32_t bounds, uint32_t memo, uint32_t budget, uint32_t *trail,
                                     size_t trail_numbers, uint64_t *parts, size_t parts_words, uint64_t *pairs, size_t pairs_words,
                                     uint64_t *memo_table, size_t memo_words, uint64_t *desk, size_t desk_words);

@@ -48,6 +48,8 @@ def score(compound: Compound | str | Chem.Mol, settings: Settings = Settings()) 
     ('scored', 2, 4)
     >>> result.removals
     (Removal(match=0, size=2),)
+    >>> score("[Ar]").score, score("[Ar]").note
+    (0, 'one atom besides hydrogen: there is nothing to join')
     """
     structure = batch.read_given(compound)
     if isinstance(structure, Result):
@@ -76,7 +78,7 @@ def label(compound: Compound | str | Chem.Mol, bonds: Iterable[int] | None = Non
 
     Bonds are numbered from 0, as RDKit numbers them; bonds to hydrogen have no part. Two sets, of one compound or of two, have equal
     labels exactly when an isomorphism that keeps elements, isotopes and kinds of bonds joins them. Raises ValueError for a compound that is
-    not searched, and for a set that is empty or not connected or has a bond that is not there.
+    not searched, and for a set that is empty (a lone atom has no other) or not connected or has a bond that is not there.
 
     >>> label("CCO") == label("OCC"), label("CCCO", [0, 1]) == label("CCCO", [1, 2])
     (True, False)
@@ -84,9 +86,10 @@ def label(compound: Compound | str | Chem.Mol, bonds: Iterable[int] | None = Non
     structure = batch.read_given(compound)
     if isinstance(structure, Result):
         raise ValueError(structure.reason)
-    found = engine.label(structure.record, _set(structure, bonds))
+    chosen = _set(structure, bonds)
+    found = engine.label(structure.record, chosen)
     if isinstance(found, engine.Reply):
-        raise ValueError(messages.no_fragment())
+        raise ValueError(messages.no_fragment(empty=not chosen))
     return found
 
 

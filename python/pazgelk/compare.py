@@ -28,7 +28,7 @@ def old_number(text: str) -> Decimal | None:
 
 
 def compare(text: str, result: Result) -> Compared:
-    """Compares a cell of the old list with today's answer. A 0 is a true score where today's score is 0 too (one bond)."""
+    """Compares a cell of the old list with today's answer. A 0 is a true score where today's score is 0 too (one bond, or none)."""
     old = old_number(text)
     if old is None:
         return Compared.NOTHING

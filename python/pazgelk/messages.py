@@ -96,6 +96,11 @@ def no_mass_number(where: str, number: str, least: int, most: int) -> str:
     return f"{where} has the mass number {number or '(blank)'}: write one from {least} to {most}, as 13 for carbon-13, or none for a natural atom"
 
 
+def no_atomic_number(where: str, number: str, most: int) -> str:
+    """An atomic number that no element has."""
+    return f"{where} has the atomic number {number}: elements have 1 to {most}"
+
+
 def no_smiles() -> str:
     """The SMILES is empty."""
     return "the SMILES is empty: fill it in"
@@ -122,6 +127,11 @@ def stray_character(place: int, character: str) -> str:
 def smiles_not_read(why: str) -> str:
     """RDKit cannot read a SMILES."""
     return f"this cannot be read as a SMILES{': ' + why if why else ''}"
+
+
+def symbol_without_brackets(symbol: str) -> str:
+    """An element's symbol without the brackets that a SMILES puts around it."""
+    return f"{symbol} is an element's symbol, which stands in brackets in a SMILES: write [{symbol}]"
 
 
 def inchi_not_read() -> str:
@@ -194,11 +204,6 @@ def hydrogen_only() -> str:
     return "there is nothing but hydrogen, which is left out"
 
 
-def one_atom() -> str:
-    """One atom and no bond."""
-    return "one atom besides hydrogen: there is no bond to score"
-
-
 def several_parts(count: int) -> str:
     """The structure is not connected."""
     return f"{count} parts that no bond joins (a salt or a mixture): give each part a row of its own"
@@ -226,9 +231,9 @@ def no_such_bond(number: object) -> str:
     return f"there is no bond {number} between atoms besides hydrogen"
 
 
-def no_fragment() -> str:
+def no_fragment(*, empty: bool) -> str:
     """A set of bonds that has no label."""
-    return "the bonds are no connected set"
+    return "there is no bond to label: a label is of one bond or more" if empty else "the bonds are no connected set"
 
 
 # Structures: notes
@@ -237,6 +242,11 @@ def no_fragment() -> str:
 def note_of_hydrogen_isotopes(names: Sequence[str]) -> str:
     """Deuterium or tritium was left out."""
     return f"{' and '.join(names)} left out as hydrogen, which marks nothing"
+
+
+def note_of_lone_atom() -> str:
+    """Why the score is 0 where there is no bond."""
+    return "one atom besides hydrogen: there is nothing to join"
 
 
 def note_of_isotopes(marks: Sequence[str]) -> str:
@@ -658,7 +668,7 @@ def summary(*, total: int, counts: Iterable[tuple[str, int]]) -> str:
 
 def summary_at_most() -> str:
     """What a search with the memo on gives."""
-    return "The memo was on, which can miss a lower score: each score is 'at most'."
+    return "The memo was on, which can miss a lower score: each score above 0 is 'at most'."
 
 
 def summary_compared(*, column: str, counts: Iterable[tuple[str, int]]) -> str:

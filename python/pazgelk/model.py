@@ -29,7 +29,6 @@ class Status(str, Enum):
     CUT_OFF = "cut off"
     RING = "ring"
     SEVERAL_PARTS = "several parts"
-    ONE_ATOM = "one atom"
     HYDROGEN_ONLY = "hydrogen only"
     TOO_LARGE = "too large"
     NO_STRUCTURE = "no structure"

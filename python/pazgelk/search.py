@@ -47,14 +47,15 @@ def _grown(lengths: Lengths, answer: Answer) -> Lengths:
 def _result(answer: Answer, settings: Settings) -> Result:
     """What an answer that no table can change says."""
     if answer.number == 0:
+        at_most = bool(settings.memo) and answer.index > 0
         return Result(
             Status.SCORED,
             score=answer.index,
             matches=answer.matches,
             states=answer.states,
             removals=answer.removals,
-            note=messages.note_of_memo() if settings.memo else "",
-            at_most=bool(settings.memo),
+            note=messages.note_of_memo() if at_most else "",
+            at_most=at_most,
         )
     if answer.number == ROW_BUDGET:
         reason = messages.budget_spent(settings.budget, MOST_BUDGET)

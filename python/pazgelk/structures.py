@@ -22,6 +22,10 @@ HYDROGEN = 1
 HYDROGEN_ISOTOPES = {2: "deuterium", 3: "tritium"}
 # Groups of a drawing that only name or describe atoms that are all there.
 HARMLESS_GROUPS = {"DAT", "SUP"}
+# The highest atomic number that an element has.
+MOST_ELEMENT = 118
+_NUMBERED_ATOM = re.compile(r"\[\d*#(\d+)")
+_SYMBOL = re.compile(r"[A-Z][a-z]?")
 _SMILES_FAULT = re.compile(r"SMILES Parse Error: (.*?)(?: while parsing| for input|: |$)")
 _VALENCE = re.compile(r"[Vv]alence for atom # \d+ \w+, (\d+),")
 
@@ -68,7 +72,7 @@ def read_smiles(text: str) -> Structure | Result:
         if not "!" <= character <= "~":
             told = messages.space_inside(place) if character == " " else messages.stray_character(place, character)
             return Result(Status.UNREADABLE, reason=told)
-    fault = isotopes.fault_in_smiles(text)
+    fault = isotopes.fault_in_smiles(text) or _atomic_number_fault(text)
     if fault:
         return Result(Status.UNREADABLE, reason=fault)
     with toolkit.silent():
@@ -127,10 +131,26 @@ def _parse_mol_block(block: str) -> Chem.Mol | None:
     return toolkit.chem().MolFromMolBlock(block, sanitize=False, removeHs=False)
 
 
+def _atomic_number_fault(text: str) -> str:
+    """What is wrong with the first atomic number of a SMILES that no element has, or nothing. RDKit keeps 8 bits of it without a word."""
+    for found in _NUMBERED_ATOM.finditer(text):
+        if len(found[1]) > len(str(MOST_ELEMENT)) or int(found[1]) > MOST_ELEMENT:
+            return messages.no_atomic_number(messages.atom_at_character(found.start() + 1), found[1], MOST_ELEMENT)
+    return ""
+
+
+def _is_symbol(text: str) -> bool:
+    """Whether a text is an element's symbol and nothing else."""
+    with toolkit.silent():
+        return bool(_SYMBOL.fullmatch(text)) and _parse_smiles(f"[{text}]") is not None
+
+
 def _smiles_fault(text: str) -> str:
     """Why RDKit could not read a SMILES."""
     if text.startswith("InChI="):
         return messages.inchi_not_read()
+    if _is_symbol(text):
+        return messages.symbol_without_brackets(text)
     faults = [_SMILES_FAULT.search(line) for line in toolkit.words_of(lambda: _parse_smiles(text))]
     return messages.smiles_not_read(next((fault[1] for fault in faults if fault), ""))
 
@@ -205,14 +225,12 @@ def _chemical_fault(molecule: Chem.Mol, error: Any) -> str:
 
 
 def _look_at_shape(graph: _Graph) -> None:
-    """It is one ring-free molecule with a bond."""
+    """It is one ring-free molecule."""
     count = len(graph.bonds)
     if graph.parts > 1:
         raise _TurnedBack(Status.SEVERAL_PARTS, messages.several_parts(graph.parts), count)
     if graph.rings:
         raise _TurnedBack(Status.RING, messages.ring(graph.rings), count)
-    if not count:
-        raise _TurnedBack(Status.ONE_ATOM, messages.one_atom(), 0)
 
 
 def _look_at_bonds(molecule: Chem.Mol, graph: _Graph) -> None:
@@ -261,11 +279,12 @@ def _notes_of_hydrogen(molecule: Chem.Mol) -> str:
 
 
 def _notes_of_atoms(molecule: Chem.Mol, graph: _Graph) -> str:
-    """Isotopes, which are told apart, and radicals, which are often a slip."""
+    """A lone atom, which explains its score; isotopes, which are told apart; and radicals, which are often a slip."""
     atoms = [molecule.GetAtomWithIdx(index) for index in graph.atoms]
     marks = [f"{atom.GetIsotope()}{atom.GetSymbol()} at atom {atom.GetIdx() + 1}" for atom in atoms if atom.GetIsotope()]
     radicals = [_atom(atom) for atom in atoms if atom.GetNumRadicalElectrons()]
     return _joined(
+        messages.note_of_lone_atom() if len(atoms) == 1 else "",
         messages.note_of_isotopes(marks) if marks else "",
         messages.note_of_radicals(radicals) if radicals else "",
     )

@@ -38,9 +38,25 @@ def test_score_of_a_labelled_standard() -> None:
     assert pazgelk.score("[2H]C([2H])([2H])C(=O)C(C)=O").score == 3
 
 
-def test_one_bond_scores_0() -> None:
+def test_nothing_to_join_scores_0() -> None:
+    """One bond, or a lone atom; hydrogen alone is neither."""
     assert pazgelk.score("CS").score == 0
-    assert pazgelk.score("S").score is None
+    for smiles in ("[Ar]", "O", "C", "S", "[2H]O[2H]", "[3H]Cl", "[13CH4]"):
+        result = pazgelk.score(smiles)
+        assert (result.status, result.score, result.bonds, result.reason) == (Status.SCORED, 0, 0, "")
+        assert (result.matches, result.states, result.removals) == (0, 0, ())
+        assert "one atom besides hydrogen" in result.note
+    for smiles in ("[H][H]", "[H+]", "[2H][2H]"):
+        assert (pazgelk.score(smiles).status, pazgelk.score(smiles).score) == (Status.HYDROGEN_ONLY, None)
+
+
+def test_score_many_of_lone_atoms() -> None:
+    """Water, heavy water and a hydroxide ion are one record, and each has its own note."""
+    assert len({pazgelk.check(smiles).record for smiles in ("O", "[2H]O[2H]", "[OH-]")}) == 1
+    results = list(pazgelk.score_many(["O", "[2H]O[2H]", "[OH-]", Chem.MolFromSmiles("[Ar]"), "[H][H]", "*", "[300CH4]"]))
+    assert [result.score for result in results] == [0, 0, 0, 0, None, None, None]
+    assert [result.status.value for result in results[4:]] == ["hydrogen only", "unreadable", "unreadable"]
+    assert "deuterium" in results[1].note and results[0].note == results[2].note == results[3].note != results[1].note
 
 
 def test_check() -> None:
@@ -48,6 +64,8 @@ def test_check() -> None:
     assert good.accepted and good.bonds == 2 and good.record[:2] == b"\x03\x02" and good.status is None
     assert len(good.record) == 2 + 2 * 3 + 3 * 2
     assert not ring.accepted and ring.status is Status.RING and ring.reason
+    argon = pazgelk.check("[Ar]")
+    assert argon.accepted and argon.bonds == 0 and argon.record == bytes.fromhex("01001201") and "nothing to join" in argon.note
 
 
 def test_label() -> None:
@@ -58,9 +76,12 @@ def test_label() -> None:
     assert pazgelk.label("[13CH3]C") == pazgelk.label("C[13CH3]") == bytes.fromhex("0100" + "00060dffff" + "00" + "0006ffff")
     assert pazgelk.label("[13CH3]CC", [1]) == pazgelk.label("CC") != pazgelk.label("[14CH3]C") != pazgelk.label("[13CH3]C")
     assert pazgelk.label("[2H]CC") == pazgelk.label("CC")
-    for bonds, words in (([], "connected"), ([0, 2], "connected"), ([4], "no bond 4"), ([-1], "no bond -1")):
+    for bonds, words in (([], "no bond to label"), ([0, 2], "connected"), ([4], "no bond 4"), ([-1], "no bond -1")):
         with pytest.raises(ValueError, match=words):
             pazgelk.label("CCCC", bonds)
+    for chosen, words in ((None, "no bond to label: a label is of one bond or more"), ([0], "no bond 0")):
+        with pytest.raises(ValueError, match=words):
+            pazgelk.label("[Ar]", chosen)
     with pytest.raises(ValueError, match="ring"):
         pazgelk.label("C1CC1")
 

@@ -82,13 +82,14 @@ def test_roast(capfd: Captured) -> None:
     status, out, error = run(capfd, "score", str(ROAST))
     rows = table(out)
     assert status == 0 and len(rows) == 98
-    assert Counter(row["pz_status"] for row in rows) == {"scored": 68, "ring": 21, "one atom": 4, "several parts": 3, "too large": 2}
-    assert error == "98 structures: 68 scored, 21 rings, 3 several parts, 4 one atom, 2 too large, 0 cut off\n"
+    assert Counter(row["pz_status"] for row in rows) == {"scored": 72, "ring": 21, "several parts": 3, "too large": 2}
+    assert error == "98 structures: 72 scored, 21 rings, 3 several parts, 2 too large, 0 cut off\n"
     scores = {row["name"]: row["pz_score"] for row in rows}
     assert scores["methanethiol"] == scores["nitrogen"] == "0"
     assert scores["dimethyl sulfide"] == scores["dimethyl sulfide-d6"] == "1"
     assert scores["geraniol"] == scores["nerol"] and scores["L-leucine"] == scores["L-leucine, zwitterion"]
-    assert [name for name, score in scores.items() if score == "0"] == ["methanethiol", "nitrogen"]
+    zeros = ["hydrogen sulfide", "methanethiol", "nitrogen", "water", "heavy water", "argon"]
+    assert [name for name, score in scores.items() if score == "0"] == zeros
     assert all(row["pz_score"] == (row["pz_score"] if row["pz_status"] == "scored" else row["pz_status"]) for row in rows)
     with ROAST.open(newline="") as lines:
         assert [list(row.values())[:3] for row in rows] == list(csv.reader(lines))[1:]
@@ -117,7 +118,7 @@ def test_every_format_gives_the_same_scores(tmp_path: Path, capfd: Captured) -> 
     from rdkit import Chem
 
     squalene = "CC(C)=CCC/C(C)=C/CC/C(C)=C/CC/C=C(C)/CC/C=C(C)/CCC=C(C)C"
-    compounds = [("ethanol", "CCO"), ("squalene", squalene), ("furan", "c1ccoc1"), ("salt", "CC(=O)[O-].[Na+]")]
+    compounds = [("ethanol", "CCO"), ("squalene", squalene), ("furan", "c1ccoc1"), ("salt", "CC(=O)[O-].[Na+]"), ("argon", "[Ar]")]
     (tmp_path / "a.csv").write_text("name;smiles\n" + "".join(f"{name};{text}\n" for name, text in compounds))
     (tmp_path / "a.tsv").write_text("smiles\tname\n" + "".join(f"{text}\t{name}\n" for name, text in compounds))
     (tmp_path / "a.smi").write_text("".join(f"{text} {name}\n" for name, text in compounds))
@@ -133,10 +134,10 @@ def test_every_format_gives_the_same_scores(tmp_path: Path, capfd: Captured) -> 
     book.save(tmp_path / "a.xlsx")
     status, out, _ = run(capfd, "score", "a.csv", "a.tsv", "a.smi", "a.sdf", "a.xlsx", "a.mol", "-o", "all.csv")
     rows = table((tmp_path / "all.csv").read_text().replace(";", ","))
-    assert (status, out, len(rows)) == (0, "", 21)
-    for place in range(0, 20, 4):
-        assert [row["pz_score"] for row in rows[place : place + 4]] == ["1", "8", "ring", "several parts"]
-    assert rows[20]["pz_score"] == "1" and [row["pz_file"] for row in rows[::4]] == ["a.csv", "a.tsv", "a.smi", "a.sdf", "a.xlsx", "a.mol"]
+    assert (status, out, len(rows)) == (0, "", 26)
+    for place in range(0, 25, 5):
+        assert [row["pz_score"] for row in rows[place : place + 5]] == ["1", "8", "ring", "several parts", "0"]
+    assert rows[25]["pz_score"] == "1" and [row["pz_file"] for row in rows[::5]] == ["a.csv", "a.tsv", "a.smi", "a.sdf", "a.xlsx", "a.mol"]
 
 
 def test_every_format_reads_isotopes(tmp_path: Path, capfd: Captured) -> None:
@@ -168,6 +169,69 @@ def test_every_format_reads_isotopes(tmp_path: Path, capfd: Captured) -> None:
         assert "atom 1 (C) has the mass number 300: write one from 2 to 254" in wrong["pz_reason"]
         assert "13C at atom 1, 13C at atom 2" in marked["pz_note"] and "deuterium" in deuterium["pz_note"]
     assert rows[-1]["pz_score"] == "4"
+
+
+GASES = """\
+name,smiles,old
+argon,[Ar],0
+water,O,1
+heavy water,[2H]O[2H],
+methane-13C,[13CH4],0
+hydrogen,[H][H],0
+no gas,*,
+symbol,Ar,
+nothing,,0
+ethane,CC,0
+propane,CCC,0
+"""
+LONE = "one atom besides hydrogen: there is nothing to join"
+MARKED = f"{LONE}; isotopes are told apart: 13C at atom 1"
+HEAVY = f"deuterium left out as hydrogen, which marks nothing; {LONE}"
+
+
+def test_gas_standards(tmp_path: Path, capfd: Captured) -> None:
+    """A lone atom is scored 0, with no matches, no states and no removals; what is none is turned back in words."""
+    (tmp_path / "a.csv").write_text(GASES)
+    status, out, error = run(capfd, "score", "a.csv", "--details", "--against", "old")
+    rows = table(out)
+    scores = ["0", "0", "0", "0", "hydrogen only", "unreadable", "unreadable", "no structure", "0", "1"]
+    assert [row["pz_score"] for row in rows] == scores and status == 1
+    counted = ("pz_status", "pz_bonds", "pz_matches", "pz_states", "pz_removals", "pz_row", "pz_place", "pz_reason")
+    for row in rows[:4]:
+        assert [row[column] for column in counted] == ["scored", "0", "0", "0", "", "", "", ""]
+    assert [row["pz_note"] for row in rows] == [LONE, LONE, HEAVY, MARKED, "", "", "", "", "", ""]
+    compared = ["same", "differs", "nothing to compare", "same", "not scored now", "nothing to compare", "nothing to compare"]
+    assert [row["pz_compare"] for row in rows] == [*compared, "not scored now", "same", "old 0 was no score"]
+    assert error.startswith("10 structures: 6 scored, 1 hydrogen only, 1 no structure, 2 unreadable, 0 cut off\n")
+
+
+def test_gas_standards_sorted(tmp_path: Path, capfd: Captured) -> None:
+    """A score of 0 stands below every other score, and above what has none."""
+    (tmp_path / "a.csv").write_text(GASES)
+    names = [row["name"] for row in table(run(capfd, "score", "a.csv", "--sort", "score")[1])]
+    assert names == ["propane", "argon", "water", "heavy water", "methane-13C", "ethane", "hydrogen", "no gas", "symbol", "nothing"]
+
+
+def test_lone_atom_in_a_workbook(tmp_path: Path, capfd: Captured) -> None:
+    """Score, bonds, matches and states are the number 0, which is no empty cell and no text."""
+    (tmp_path / "a.csv").write_text("smiles\n[Ar]\n[H][H]\n")
+    assert run(capfd, "score", "a.csv", "-o", "out.xlsx", "--details")[0] == 0
+    cells = list(openpyxl.load_workbook(tmp_path / "out.xlsx").active.iter_rows())
+    row = dict(zip((cell.value for cell in cells[0]), cells[1]))
+    for column in ("pz_score", "pz_bonds", "pz_matches", "pz_states"):
+        assert (row[column].value, row[column].data_type) == (0, "n")
+    assert row["pz_status"].value == "scored" and row["pz_note"].value == LONE
+    assert cells[2][1].value == "hydrogen only"
+
+
+def test_lone_atom_in_an_sdf(tmp_path: Path, capfd: Captured) -> None:
+    from rdkit import Chem
+
+    blocks = [Chem.MolToMolBlock(Chem.MolFromSmiles("[Ar]")), Chem.MolToV3KMolBlock(Chem.MolFromSmiles("O"))]
+    (tmp_path / "in.sdf").write_text("".join(f"{block}$$$$\n" for block in blocks))
+    assert run(capfd, "score", "in.sdf", "-o", "out.sdf")[0] == 0
+    text = (tmp_path / "out.sdf").read_text()
+    assert text.count(f"> <pz_score>\n0\n\n> <pz_status>\nscored\n\n> <pz_bonds>\n0\n\n> <pz_note>\n{LONE}\n\n$$$$\n") == 2
 
 
 def test_workbook_to_workbook(tmp_path: Path, capfd: Captured) -> None:
@@ -226,14 +290,15 @@ def test_time_is_a_limit_and_later_rows_come(tmp_path: Path, capfd: Captured) ->
 
 
 def test_terminal(tmp_path: Path) -> None:
-    (tmp_path / "a.csv").write_text("name,smiles,old\n乙醇,CCO,0\nring,C1CC1,\nbad,CC(,3\n")
+    (tmp_path / "a.csv").write_text("name,smiles,old\n乙醇,CCO,0\nring,C1CC1,\nbad,CC(,3\nAr,[Ar],0\n")
     status, shown = on_terminal("score", "a.csv", "--against", "old")
     lines = shown.split("\n")
     assert status == 1 and lines[0].startswith("\033[1mname  score")
     assert lines[1].startswith("\033[31m乙醇      1  scored") and "old 0 was no score" in lines[1]
     assert lines[2].startswith("\033[33mring      -  ring")
-    assert lines[-3] == "3 structures: 1 scored, 1 ring, 1 unreadable, 0 cut off"
-    assert lines[-2] == "Against old: 0 same, 1 old 0 was no score, 0 differs, 1 nothing to compare, 1 not scored now"
+    assert any(line.startswith("Ar        0  scored             0       0  same") for line in lines)
+    assert lines[-3] == "4 structures: 2 scored, 1 ring, 1 unreadable, 0 cut off"
+    assert lines[-2] == "Against old: 1 same, 1 old 0 was no score, 0 differs, 1 nothing to compare, 1 not scored now"
 
 
 # How it ends

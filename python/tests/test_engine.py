@@ -11,6 +11,7 @@ from pazgelk.engine import Answer, Lengths, Reply
 from pazgelk.model import NotReady, Removal
 
 CHAIN = bytes.fromhex("050406060606060101010101000101020203030401010101")
+ARGON = bytes.fromhex("01001201")
 TRIANGLE = bytes.fromhex("04030606060601010101000101020200010101")
 
 
@@ -31,6 +32,8 @@ def test_check() -> None:
     assert engine.check(TRIANGLE) == Reply(6, 3)
     assert engine.check(b"") == Reply(1, 0)
     assert engine.check(b"\0\0") == Reply(2, 0)
+    assert engine.check(ARGON) == Reply(0, 0)
+    assert engine.check(bytes.fromhex("020012120101")) == Reply(2, 0)
     assert engine.check(CHAIN[:7] + CHAIN[12:]) == Reply(1, 19)
 
 
@@ -43,6 +46,9 @@ def test_classes() -> None:
         (chain(1, 1, 1, 1, 255), Reply(15, 4)),
         (chain(0, 1, 1, 1, 1).replace(b"\6", b"\xff", 1), Reply(3, 0)),
         (chain(1, 0, 1, 1, 1)[:-1] + b"\0", Reply(15, 1)),
+        (ARGON[:3] + b"\xfe", Reply(0, 0)),
+        (ARGON[:3] + b"\xff", Reply(15, 0)),
+        (b"\1\0\xff\xff", Reply(3, 0)),
     ):
         assert engine.check(record) == reply
     wrong = chain(1, 1, 0, 255, 1)
@@ -86,6 +92,17 @@ def test_score() -> None:
     assert score(Lengths(72, 4), memo=1) == Answer(12, 1)
     assert score(Lengths(72, 4, 160), memo=1).index == 2
     assert score(Lengths(72, 4), bounds=4) == Answer(7)
+
+
+@pytest.mark.parametrize("lengths", [Lengths(0, 0), Lengths(72, 4, 160)])
+@pytest.mark.parametrize("budget", [0, 1, 2**32 - 1])
+@pytest.mark.parametrize("memo", [0, 1])
+def test_lone_atom(memo: int, budget: int, lengths: Lengths) -> None:
+    """It is scored 0 whatever budget and tables are, and has no set of bonds that has a label."""
+    assert score(lengths, ARGON, memo=memo, budget=budget) == Answer(0, index=0, matches=0, states=0, removals=())
+    assert score(lengths, ARGON, bounds=4, memo=memo, budget=budget) == Answer(7)
+    assert engine.matches(ARGON, lengths.parts, lengths.pairs) == Reply(0, 0)
+    assert engine.label(ARGON, 0) == engine.label(ARGON, 1) == Reply(13, 0)
 
 
 def test_library_that_is_missing(monkeypatch: pytest.MonkeyPatch, tmp_path: Path) -> None:

@@ -106,8 +106,8 @@ def test_progress_into_a_file_is_lines(monkeypatch: pytest.MonkeyPatch) -> None:
 
 
 def test_summary() -> None:
-    results = [Result(Status.SCORED, 1)] * 66 + [Result(Status.RING)] * 21 + [Result(Status.ONE_ATOM)]
-    assert report.summary(results, [], None) == "88 structures: 66 scored, 21 rings, 1 one atom, 0 cut off"
+    results = [Result(Status.SCORED, 1)] * 66 + [Result(Status.RING)] * 21 + [Result(Status.HYDROGEN_ONLY)]
+    assert report.summary(results, [], None) == "88 structures: 66 scored, 21 rings, 1 hydrogen only, 0 cut off"
     assert report.summary([], [], None) == "0 structures: 0 scored, 0 cut off"
     assert report.summary([Result(Status.RING)], [], None) == "1 structure: 0 scored, 1 ring, 0 cut off"
     told = report.summary([Result(Status.SCORED, 3)], [Compared.OLD_ZERO], "old")

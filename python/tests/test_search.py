@@ -110,6 +110,19 @@ def test_memo_is_at_most() -> None:
     assert not pazgelk.score("CCCCC").at_most
 
 
+@pytest.mark.parametrize("smiles", ["CC", "[Ar]"])
+def test_no_score_is_below_0(smiles: str) -> None:
+    """So with the memo on 0 is not 'at most'."""
+    result = pazgelk.score(smiles, Settings(memo=1))
+    assert (result.score, result.at_most) == (0, False) and "at most" not in result.note
+
+
+def test_least_limits_do_for_a_lone_atom() -> None:
+    result = pazgelk.score("[Ar]", Settings(budget=0, memory=MEGABYTE))
+    assert (result.status, result.score) == (Status.SCORED, 0)
+    assert pazgelk.score("CC", Settings(budget=0, memory=MEGABYTE)).status is Status.CUT_OFF
+
+
 def test_time(searcher: Searcher) -> None:
     began = time.monotonic()
     result = searcher.search(record(ENDLESS), Settings(time=0.5))

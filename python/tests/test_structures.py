@@ -51,6 +51,17 @@ def turned_back(found: Structure | Result) -> Result:
         ("c1cccn1", Status.UNREADABLE, None, "aromatic atoms 1, 2, 3, 4, 5"),
         ("CcC", Status.UNREADABLE, None, "atom 2 (C) is written as aromatic"),
         ("*CC", Status.UNREADABLE, None, "atom 1 (*)"),
+        ("*", Status.UNREADABLE, None, "atom 1 (*)"),
+        ("[*H2]", Status.UNREADABLE, None, "atom 1 (*)"),
+        ("[#0]", Status.UNREADABLE, None, "atom 1 (*)"),
+        ("[#119]", Status.UNREADABLE, None, "the atom at character 1 has the atomic number 119: elements have 1 to 118"),
+        ("[#300]", Status.UNREADABLE, None, "the atom at character 1 has the atomic number 300"),
+        ("C[#262]", Status.UNREADABLE, None, "the atom at character 2 has the atomic number 262"),
+        ("[#6H3][13#262H3]", Status.UNREADABLE, None, "the atom at character 7 has the atomic number 262"),
+        ("[#" + "9" * 5000 + "]", Status.UNREADABLE, None, "the atom at character 1 has the atomic number 999"),
+        ("[Xx]", Status.UNREADABLE, None, "cannot be read as a SMILES"),
+        ("Ar", Status.UNREADABLE, None, "write [Ar]"),
+        ("Xx", Status.UNREADABLE, None, "cannot be read as a SMILES: syntax error"),
         ("CC[*:1]", Status.UNREADABLE, None, "atom 3 (*)"),
         ("CC~C", Status.UNREADABLE, None, "bond 2 (from atom 2 (C) to atom 3 (C))"),
         ("C[Fe]<-O", Status.UNREADABLE, 2, "is dative"),
@@ -61,22 +72,24 @@ def turned_back(found: Structure | Result) -> Result:
         ("C[1CH3]", Status.UNREADABLE, 1, "atom 2 (C) has the mass number 1:"),
         ("[1OH]C[999CH3]", Status.UNREADABLE, 2, "atom 1 (O) has the mass number 1:"),
         ("[300CH4]", Status.UNREADABLE, 0, "mass number 300"),
+        ("[1OH2]", Status.UNREADABLE, 0, "atom 1 (O) has the mass number 1:"),
+        ("[255Ar]", Status.UNREADABLE, 0, "atom 1 (Ar) has the mass number 255:"),
+        ("[65576Ar]", Status.UNREADABLE, None, "the atom at character 1 has the mass number 65576"),
         ("[300CH2]1CC1", Status.UNREADABLE, 3, "mass number 300"),
         ("C[65536CH3]", Status.UNREADABLE, None, "the atom at character 2 has the mass number 65536"),
         ("C[65549CH3]", Status.UNREADABLE, None, "the atom at character 2 has the mass number 65549"),
         ("C[99999999999CH3]", Status.UNREADABLE, None, "the mass number 99999999999"),
         ("[-13CH3]C", Status.UNREADABLE, None, "cannot be read as a SMILES"),
         ("[13CH5]C", Status.UNREADABLE, None, "atom 1 (C) has a valence of 6"),
+        ("[CH5]", Status.UNREADABLE, None, "atom 1 (C) has a valence of 5"),
         ("C[H]C", Status.UNREADABLE, None, "atom 2 (H) is a hydrogen with 2 bonds"),
         ("[H]1[BH2][H][BH2]1", Status.UNREADABLE, None, "hydrogen with 2 bonds"),
         ("[H][H]", Status.HYDROGEN_ONLY, 0, "nothing but hydrogen"),
         ("[2H][2H]", Status.HYDROGEN_ONLY, 0, "nothing but hydrogen"),
         ("[H+]", Status.HYDROGEN_ONLY, 0, "nothing but hydrogen"),
-        ("O", Status.ONE_ATOM, 0, "one atom"),
-        ("[2H]O[2H]", Status.ONE_ATOM, 0, "one atom"),
-        ("[2H]Cl", Status.ONE_ATOM, 0, "one atom"),
-        ("[13CH4]", Status.ONE_ATOM, 0, "one atom"),
-        ("[Ar]", Status.ONE_ATOM, 0, "one atom"),
+        ("[H].[H]", Status.HYDROGEN_ONLY, 0, "nothing but hydrogen"),
+        ("O.O", Status.SEVERAL_PARTS, 0, "2 parts"),
+        ("[Na+].[Cl-]", Status.SEVERAL_PARTS, 0, "2 parts"),
         ("CC(=O)[O-].[Na+]", Status.SEVERAL_PARTS, 3, "2 parts"),
         ("CCC(C)C=O.CC(C)CC=O", Status.SEVERAL_PARTS, 10, "2 parts"),
         ("C." * 5000 + "C", Status.SEVERAL_PARTS, 0, "5001 parts"),
@@ -126,6 +139,38 @@ def test_read(smiles: str, bonds: int, note: str) -> None:
     assert isinstance(found, Structure)
     assert found.bonds == bonds == found.record[1]
     assert (note in found.note) if note else found.note == ""
+    assert engine.check(found.record) == (0, 0)
+
+
+LONE = "one atom besides hydrogen: there is nothing to join"
+
+
+@pytest.mark.parametrize(
+    ("smiles", "atom", "note"),
+    [
+        ("[Ar]", "1201", LONE),
+        ("[#18]", "1201", LONE),
+        ("[Og]", "7601", LONE),
+        ("O", "0801", LONE),
+        ("[OH2]", "0801", LONE),
+        ("[H]O[H]", "0801", LONE),
+        ("[OH-]", "0801", LONE),
+        ("C", "0601", LONE),
+        ("S", "1001", LONE),
+        ("[NH4+]", "0701", LONE),
+        ("[Na+]", "0b01", LONE),
+        ("[2H]O[2H]", "0801", f"deuterium left out as hydrogen, which marks nothing; {LONE}"),
+        ("[3H]Cl", "1101", f"tritium left out as hydrogen, which marks nothing; {LONE}"),
+        ("[H+].[Cl-]", "1101", f"hydrogen beside the molecule left out; {LONE}"),
+        ("[13CH4]", "060d", f"{LONE}; isotopes are told apart: 13C at atom 1"),
+        ("[254Hg]", "50fe", f"{LONE}; isotopes are told apart: 254Hg at atom 1"),
+        ("[O]", "0801", f"{LONE}; radical at atom 1 (O): is a hydrogen missing?"),
+    ],
+)
+def test_lone_atoms(smiles: str, atom: str, note: str) -> None:
+    """Their record is that of one atom without a bond, which the engine takes."""
+    found = read_smiles(smiles)
+    assert found == Structure(bytes.fromhex("0100" + atom), 0, note)
     assert engine.check(found.record) == (0, 0)
 
 
@@ -271,12 +316,37 @@ def test_mol_blocks(text: str) -> None:
         (block(["C", "C", "C"], [(1, 2, 1), (2, 3, 1), (3, 1, 1)]), Status.RING, "a ring"),
         (block(["C", "C"], []), Status.SEVERAL_PARTS, "2 parts"),
         (block(["H", "H"], [(1, 2, 1)]), Status.HYDROGEN_ONLY, "hydrogen"),
+        (block(["D"], []), Status.HYDROGEN_ONLY, "hydrogen"),
+        (block(["A"], []), Status.UNREADABLE, "atom 1"),
+        (block(["Xx"], []), Status.UNREADABLE, "Element 'Xx' not found"),
+        (block(["R#"], [], "M  RGP  1   1   2"), Status.UNREADABLE, "atom 1 (R2)"),
+        (block(["Ar"], [], "M  ISO  1   1 255"), Status.UNREADABLE, "atom 1 (Ar) has the mass number 255:"),
+        (block(["Ar"], [], "M  ISO  1   1   1"), Status.UNREADABLE, "atom 1 (Ar) has the mass number 1:"),
     ],
 )
 def test_mol_blocks_turned_back(text: str, status: Status, words: str) -> None:
     found = turned_back(read_mol_block(text))
     assert found.status is status
     assert words in found.reason
+
+
+@pytest.mark.parametrize(
+    ("text", "smiles"),
+    [
+        (block(["Ar"], []), "[Ar]"),
+        (block(["O"], []), "O"),
+        (block(["O", "D", "D"], [(1, 2, 1), (1, 3, 1)]), "[2H]O[2H]"),
+        (block(["O"], [], "M  CHG  1   1  -1"), "[OH-]"),
+        (block(["C"], [], "M  ISO  1   1  13"), "[13CH4]"),
+        (block(["C"], [], offsets={1: 1}), "[13CH4]"),
+        (Chem.MolToV3KMolBlock(Chem.MolFromSmiles("[Ar]")), "[Ar]"),
+        (Chem.MolToV3KMolBlock(Chem.MolFromSmiles("[13CH4]")), "[13CH4]"),
+    ],
+)
+def test_lone_atoms_of_mol_blocks(text: str, smiles: str) -> None:
+    found = read_mol_block(text)
+    assert isinstance(found, Structure), found
+    assert found == read_smiles(smiles)
 
 
 def v3000(mass: str) -> str:

@@ -53,8 +53,8 @@ def test_clean_environment(wheel: Path, tmp_path: Path) -> None:
     run(home / "bin" / "pip", "install", "--no-index", "--no-deps", "--disable-pip-version-check", wheel, check=True)
     where = run(home / "bin" / "python", "-c", "import pazgelk; print(pazgelk.__file__, pazgelk.score('CC(C)CC=O').score)", check=True)
     assert where.stdout.startswith(str(home)) and where.stdout.endswith(" 3\n")
-    scored = run(home / "bin" / "pazgelk", "score", "--smiles", "CC(C)CC=O")
-    assert scored.returncode == 0 and "CC(C)CC=O,3,scored,5," in scored.stdout
+    scored = run(home / "bin" / "pazgelk", "score", "--smiles", "CC(C)CC=O", "--smiles", "[Ar]")
+    assert scored.returncode == 0 and "CC(C)CC=O,3,scored,5," in scored.stdout and "[Ar],0,scored,0," in scored.stdout
 
 
 def test_without_rdkit_it_says_so(wheel: Path, tmp_path: Path) -> None:

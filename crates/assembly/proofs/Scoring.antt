@@ -265,6 +265,7 @@ demanded r setting room index matches states trail e = record {
   fewest = score.index_is_fewest r setting room index matches states trail e;
   never_fewer = score.index_not_fewer r setting room index matches states trail e;
   entered = score.states_some r setting room index matches states trail e;
+  none_entered = score.states_none r setting room index matches states trail e;
   within = score.states_within r setting room index matches states trail e;
 }
 

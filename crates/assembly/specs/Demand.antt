@@ -1,5 +1,5 @@
 -- Demand 3, as score's contract states it of a record that is scored, whatever the bounds, the budget and the sizes and contents of the lent tables.
-use Rattle.std.specs.Prelude.{◌≡◌, true, List, map, ℕ, ◌+◌, ◌-◌, ◌≤◌, length}
+use Rattle.std.specs.Prelude.{◌≡◌, true, List, map, ℕ, ◌+◌, ◌≤◌, length}
 use mathlib.Core.List.{Memᴰ as Mem}
 use Rattle.bitset.specs.Bits.{Ascending}
 use Rattle.molecule.specs.Lists.{Bytes}
@@ -8,6 +8,7 @@ use Rattle.matches.specs.Table.{pairs, size_of}
 use Rattle.search.specs.Trail.{Trail, sizes_less_one}
 use Rattle.search.specs.Series.{allowed, saved, series_score, least_score, IsLeastScore}
 use Rattle.search.specs.Pathway.{is_pathway, HasPathway, IsFewest, joins}
+use Rattle.search.specs.State.{root_index}
 
 -- with this memo and budget the record has been answered index, states and the trail
 pub record Demand3 (r : Bytes) (memo budget index states : ℕ) (trail : Trail) : Type 0 where
@@ -17,8 +18,8 @@ pub record Demand3 (r : Bytes) (memo budget index states : ℕ) (trail : Trail) 
   pub series : allowed r (pairs r) trail.numbers ≡ true
   -- and score exactly the index answered
   pub scores : series_score r (pairs r) trail.numbers ≡ index
-  -- no series' score is cut short: it is bonds less one, less (size less one) for each removal
-  pub exact : (τ : List ℕ) → allowed r (pairs r) τ ≡ true → series_score r (pairs r) τ + saved (pairs r) τ ≡ bonds r - 1
+  -- no series' score is cut short: it is the root's index, less (size less one) for each removal
+  pub exact : (τ : List ℕ) → allowed r (pairs r) τ ≡ true → series_score r (pairs r) τ + saved (pairs r) τ ≡ root_index r
   -- with the memo off every series of removals that the match table allows, the empty one included, scores at least the index answered
   pub at_least : memo ≡ 0 → (τ : List ℕ) → allowed r (pairs r) τ ≡ true → index ≤ series_score r (pairs r) τ
   -- so that the index is the least score of all those series, in words and as the number that computes
@@ -30,8 +31,8 @@ pub record Demand3 (r : Bytes) (memo budget index states : ℕ) (trail : Trail) 
   pub least_is : IsLeastScore r (pairs r) (least_score r (pairs r))
   -- document 02, 3/14. Beside each match number stands the size of that match's fragments
   pub sizes : trail.sizes ≡ map (size_of (pairs r)) trail.numbers
-  -- bonds less one is index plus the sum of (size less one) in the trail
-  pub sum : bonds r - 1 ≡ index + sizes_less_one trail
+  -- the root's index, bonds less one where there is a bond, is index plus the sum of (size less one) in the trail
+  pub sum : root_index r ≡ index + sizes_less_one trail
   -- in which nothing is cut short: each size is two at least
   pub two : (k : ℕ) → Mem k trail.sizes → 2 ≤ k
   -- the joins that the trail yields are a pathway that ends in the molecule
@@ -44,6 +45,7 @@ pub record Demand3 (r : Bytes) (memo budget index states : ℕ) (trail : Trail) 
   pub fewest : memo ≡ 0 → IsFewest r index
   -- with the memo on, or off, the index is never below the fewest joins of any pathway
   pub never_fewer : (k : ℕ) → IsFewest r k → k ≤ index
-  -- the states entered: the root at least, and no more than the budget
-  pub entered : 1 ≤ states
+  -- the states entered: the root at least where there is a bond, none where there is none (document 02, 5/14), and no more than the budget
+  pub entered : 1 ≤ bonds r → 1 ≤ states
+  pub none_entered : bonds r ≡ 0 → states ≡ 0
   pub within : states ≤ budget

@@ -1,7 +1,7 @@
 -- The laws of the match table that other crates cite, and those of its order that serve whoever builds it. Assumes nothing.
-use mathlib.Core.Path.{◌≡◌, refl, sym, subst, ◌∙◌}
+use mathlib.Core.Path.{◌≡◌, refl, sym, ap, subst, ◌∙◌}
 use mathlib.Core.List.{List, [], ◌∷◌, ◌++◌, Memᴰ as Mem}
-use Prim.Native.Nat.{ℕ, ◌*◌, ◌≤◌, ◌<◌}
+use Prim.Native.Nat.{ℕ, zero, suc, ◌*◌, ◌≤◌, ◌<◌}
 use native.Mathlib.Omega.{arith}
 use lib.Bits.{bit_or}
 use lib.ListN.{length, get_or}
@@ -15,12 +15,13 @@ use Rattle.molecule.specs.Connected.{Connected, Own}
 use Rattle.molecule.proofs.Components.{own_all}
 use Rattle.molecule.proofs.Lists.{Ordered}
 use Rattle.molecule.proofs.Perms.{Distinct}
-use Rattle.matches.specs.Table.{Table, Pair, pair, size_of, pair_up, singles, match_table, pairs}
+use Rattle.matches.specs.Table.{Table, Match, Pair, pair, size_of, pair_up, singles, match_table, pairs}
+use Rattle.matches.specs.Rows.{table_answer}
 use Rattle.matches.specs.Laws.{Twins, IsMatch, Laws}
 use Rattle.matches.specs.Inner.Ranks.{Akin, Precedes}
 use Rattle.matches.specs.Inner.Descending.{Starts}
 use Rattle.matches.proofs.Sizes.{unsorted_sane}
-use Rattle.matches.proofs.Listed.{sorted_distinct, matches_are, m1, m2}
+use Rattle.matches.proofs.Listed.{sorted_distinct, matches_are, lone_needs, m1, m2}
 use Rattle.matches.proofs.Complete.{m3, all_listed}
 use Rattle.matches.proofs.Descending.{group_start, together, group_starts}
 -- there are as many pairs as matches; rows 9 and 10
@@ -36,10 +37,21 @@ pub use Rattle.matches.proofs.Noting.{distinct_at}
 pub use Rattle.matches.proofs.ByLabel.{before_differ, groups_every}
 pub use Rattle.matches.proofs.Pairing.{Grows, grows_refl, pair_up_grows}
 pub use Rattle.matches.proofs.Sizes.{Node, Round, next, newest, round_next, start, start_round, unsorted, sizes_grows, sizes_enough, last_parents, candidates_node, candidates_distinct, single_node}
-pub use Rattle.matches.proofs.Listed.{nodes_are, needs_are}
+pub use Rattle.matches.proofs.Listed.{nodes_are, needs_are, lone_matches}
 pub use Rattle.matches.proofs.RowLaws.{need_stays}
 pub use Rattle.matches.proofs.Descending.{countdown_has, descend_has, descending}
 pub use Rattle.matches.proofs.Recorded.{table_recorded, starts_before, matches_in_lem, words_in}
+
+-- ---- a record without bonds
+
+-- no size needs room, and there is no match: neither row 9 nor row 10 turns it back
+pub lone_fits : (r : Bytes) → bonds r ≡ 0 → (p words : ℕ) → table_answer (match_table r) p words ≡ accepted
+lone_fits r lone p words = all_fit (match_table r) p words (rw (lone_needs r lone) need) (omega (arith, ap (λ (l : List Match). length l) (lone_matches r lone)))
+  where
+    need : (i : ℕ) → i < 2 → get_or (0 ∷ 0 ∷ []) i 0 ≤ p
+    need zero h = omega arith
+    need (suc zero) h = omega arith
+    need (suc (suc i)) h = absurd (omega arith)
 
 -- ---- what a search cites
 

@@ -3,21 +3,23 @@ use mathlib.Core.Path.{◌≡◌, refl, sym, ap, ◌∙◌, subst}
 use mathlib.Core.Logic.{inl, inr, ⊎_elim}
 use mathlib.Core.Bool.{true}
 use mathlib.Core.List.Permᴰ.{symm as perm_sym}
-use mathlib.Core.List.{List, map, Memᴰ as Mem}
+use mathlib.Core.List.{Permᴰ as Perm}
+use mathlib.Core.List.{List, [], ◌∷◌, map, Memᴰ as Mem}
 use Prim.Native.Nat.{ℕ, ◌≤◌, ◌<◌}
 use native.Mathlib.Omega.{arith}
 use native.Mathlib.Decide.{ℕ_discrete}
 use lib.ListN.{length, get_or, length-map}
 use Rattle.bitset.specs.Bits.{size}
 use Rattle.molecule.specs.Lists.{Bytes, sort_by}
+use Rattle.molecule.specs.Record.{bonds}
 use Rattle.molecule.proofs.Lists.{mem_at, at_mem, map_at, Ordered, ordered_at, sort_perm}
-use Rattle.molecule.proofs.Perms.{perm_mem, Distinct, distinct_perm}
-use Rattle.matches.specs.Table.{Match, not_below, match_table, Pair, pairs_of, pair, size_of, pairs}
+use Rattle.molecule.proofs.Perms.{perm_mem, perm_nil, Distinct, distinct_perm}
+use Rattle.matches.specs.Table.{Table, Match, not_below, sizes, singles, match_table, Pair, pairs_of, pair, size_of, pairs}
 use Rattle.matches.specs.Laws.{Twins, IsMatch}
 use Rattle.matches.specs.Inner.Ranks.{Precedes}
 use Rattle.matches.proofs.Noting.{Above, above_of, sort_descends}
 use Rattle.matches.proofs.Pairing.{Matched, Sound}
-use Rattle.matches.proofs.Sizes.{precedes_size, unsorted, unsorted_sane}
+use Rattle.matches.proofs.Sizes.{precedes_size, start, unsorted, unsorted_sane}
 
 module _ (r : Bytes) where
   -- the nodes, and the matches sorted
@@ -38,6 +40,19 @@ module _ (r : Bytes) where
   pub needs_are : (match_table r).needs ≡ (unsorted r).needs
   unfolding match_table
   needs_are = refl
+
+  -- without bonds no size needs room, and there is no match
+  module _ (lone : bonds r ≡ 0) where
+    at_start : unsorted r ≡ start r
+    unfolding sizes
+    at_start = ap (λ (n : ℕ). sizes r n (start r) (singles r)) lone
+
+    pub lone_needs : (match_table r).needs ≡ 0 ∷ 0 ∷ []
+    lone_needs = needs_are ∙ ap (λ (t : Table). t.needs) at_start ∙ ap (λ (n : ℕ). 0 ∷ n ∷ []) lone
+
+    pub lone_matches : (match_table r).matches ≡ []
+    unfolding sorted
+    lone_matches = matches_are ∙ perm_nil (perm_sym (subst (λ (l : List Match). Perm (sorted) l) (ap (λ (t : Table). t.matches) at_start) (sort_perm not_below (unsorted r).matches)))
 
   pub sorted_in : (m : Match) → Mem m sorted → Mem m (unsorted r).matches
   unfolding sorted

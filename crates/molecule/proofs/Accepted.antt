@@ -41,16 +41,14 @@ module _ (r : Bytes) where
       let w = or_false (ltb (length r) 2) (not (eqb (length r) (2 + 2 * atoms r + 3 * bonds r))) e in
       eqb-true (length r) (2 + 2 * atoms r + 3 * bonds r) (not-false (eqb (length r) (2 + 2 * atoms r + 3 * bonds r)) w.1)
 
-  pub counts_right : bad_counts r ≡ false → (1 ≤ bonds r) × (bonds r ≤ 64) × (atoms r ≡ bonds r + 1)
+  pub counts_right : bad_counts r ≡ false → (bonds r ≤ 64) × (atoms r ≡ bonds r + 1)
   unfolding bad_counts
   counts_right e =
-      let c = or_false (eqb (bonds r) 0 || ltb 64 (bonds r)) (not (eqb (atoms r) (bonds r + 1))) e in
-      let d = or_false (eqb (bonds r) 0) (ltb 64 (bonds r)) c.0 in
-      let z : bonds r ≢ 0 = eqb-false (bonds r) 0 d.0 in
-      (omega arith, ltb-false 64 (bonds r) d.1, eqb-true (atoms r) (bonds r + 1) (not-false (eqb (atoms r) (bonds r + 1)) c.1))
+      let c = or_false (ltb 64 (bonds r)) (not (eqb (atoms r) (bonds r + 1))) e in
+      (ltb-false 64 (bonds r) c.0, eqb-true (atoms r) (bonds r + 1) (not-false (eqb (atoms r) (bonds r + 1)) c.1))
 
   pub sized_of : bad_length r ≡ false → bad_counts r ≡ false → RightCounts r
-  sized_of l c = let w = counts_right c in record { long = length_right l; some = w.0; few = w.1; count = w.2 }
+  sized_of l c = let w = counts_right c in record { long = length_right l; few = w.0; count = w.1 }
 
   byte_right : (b : ℕ) → wrong_byte b ≡ false → (b ≢ 0) × (b ≢ 255)
   byte_right b e = let w = or_false (eqb b 0) (eqb b 255) e in (eqb-false b 0 w.0, eqb-false b 255 w.1)

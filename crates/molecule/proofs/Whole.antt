@@ -1,7 +1,7 @@
--- All bonds of an accepted record are connected: walks over atoms are links of bonds. Assumes nothing.
+-- All bonds of an accepted record that has a bond are connected: walks over atoms are links of bonds. Assumes nothing else.
 use mathlib.Core.Path.{◌≡◌, refl}
 use mathlib.Core.Logic.{inl}
-use Prim.Native.Nat.{ℕ}
+use Prim.Native.Nat.{ℕ, ◌≤◌}
 use native.Mathlib.Omega.{arith}
 use native.Mathlib.Decide.{ℕ_discrete}
 use lib.Pow.{pow_pos}
@@ -42,10 +42,10 @@ module _ (r : Bytes) where
   walk_sym stay = stay
   walk_sym (along {v = x} {w = y} i p h j) = walk_join (along i stay h (joins_sym r i x y j)) (walk_sym p)
 
-  -- all bonds of an accepted record are connected: from an end of the one bond back to atom 0, and on to an end of the other
-  pub all_connected : check r ≡ accepted → Connected r (all_bonds r)
-  all_connected ok = record {
-    some = not_empty a 0 (bit_first (bonds r) 0 (omega (arith, t.formed.sized.some)));
+  -- all bonds of an accepted record are connected, where there are any: from an end of the one bond back to atom 0, and on to an end of the other
+  pub all_connected : check r ≡ accepted → 1 ≤ bonds r → Connected r (all_bonds r)
+  all_connected ok one = record {
+    some = not_empty a 0 (bit_first (bonds r) 0 (omega arith));
     linked = λ b c hb hc. walk_links a own (walk_join (walk_sym (to b hb)) (to c hc)) b c hb hc (inl refl) (inl refl);
   }
     where

@@ -45,9 +45,9 @@ module _ (r : Bytes) where
   unfoldable pub bad_length : Bool
   bad_length = ltb (length r) 2 || not (eqb (length r) (2 + 2 * atoms r + 3 * bonds r))
 
-  -- row 2: n is 0 or over 64, or a is not n + 1
+  -- row 2: n is over 64, or a is not n + 1; so, by document 02, 5/14, n = 0 with any a but 1
   unfoldable pub bad_counts : Bool
-  bad_counts = eqb (bonds r) 0 || ltb 64 (bonds r) || not (eqb (atoms r) (bonds r + 1))
+  bad_counts = ltb 64 (bonds r) || not (eqb (atoms r) (bonds r + 1))
 
   -- row 3: element code 0 or 255
   unfoldable pub bad_element : ℕ → Bool

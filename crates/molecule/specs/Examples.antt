@@ -23,14 +23,18 @@ unfoldable pub chain_ends : ℕ → ℕ → Bytes
 chain_ends i zero = []
 chain_ends i (suc n) = i ∷ suc i ∷ chain_ends (suc i) n
 
--- the chain of n single bonds between natural carbons
+-- the chain of n single bonds between natural carbons; of none, a lone atom
 unfoldable pub chain : ℕ → Bytes
 chain n = (suc n ∷ n ∷ []) ++ times (suc n) 6 ++ times (suc n) 1 ++ chain_ends 0 n ++ times n 1
 
 -- check's answers: rows of the table, then slips in the chain of 4, whose classes start at byte 7, ends at byte 12 and codes at byte 20
 pub record Checks : Type 0 where
   pub triangle : check (4 ∷ 3 ∷ 6 ∷ 6 ∷ 6 ∷ 6 ∷ 1 ∷ 1 ∷ 1 ∷ 1 ∷ 0 ∷ 1 ∷ 1 ∷ 2 ∷ 2 ∷ 0 ∷ 1 ∷ 1 ∷ 1 ∷ []) ≡ refused 6 3
-  pub bondless : check (0 ∷ 0 ∷ []) ≡ refused 2 0
+  pub atomless : check (0 ∷ 0 ∷ []) ≡ refused 2 0
+  pub lone : check (chain 0) ≡ accepted
+  pub lone_255 : check (set (chain 0) 2 255) ≡ refused 3 0
+  pub lone_class : check (set (chain 0) 3 0) ≡ refused 15 0
+  pub two_apart : check (2 ∷ 0 ∷ 6 ∷ 6 ∷ 1 ∷ 1 ∷ []) ≡ refused 2 0
   pub empty : check [] ≡ refused 1 0
   pub most : check (chain 64) ≡ accepted
   pub too_many : check (chain 65) ≡ refused 2 0
@@ -52,7 +56,11 @@ pub checks : Checks
 unfolding compute times chain_ends chain
 checks = record {
   triangle = refl;
-  bondless = refl;
+  atomless = refl;
+  lone = refl;
+  lone_255 = refl;
+  lone_class = refl;
+  two_apart = refl;
   empty = refl;
   most = refl;
   too_many = refl;

@@ -7,7 +7,6 @@ use Rattle.molecule.specs.Record.{atoms, bonds, element, class, end_a, end_b, co
 -- the bytes are there, and the counts are right (rows 1 and 2)
 pub record RightCounts (r : Bytes) : Type 0 where
   pub long : length r ≡ 2 + 2 * atoms r + 3 * bonds r
-  pub some : 1 ≤ bonds r
   pub few : bonds r ≤ 64
   pub count : atoms r ≡ bonds r + 1
 

@@ -85,7 +85,7 @@ fn check_counts(bytes: &[u8]) -> Result<(), Fault>
     if length != 2 + 2 * a + 3 * n {
         return Err(Fault::Length(length));
     }
-    if n == 0 || 64 < n || a != n + 1 {
+    if 64 < n || a != n + 1 {
         return Err(Fault::Counts);
     }
     Ok(())

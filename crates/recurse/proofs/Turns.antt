@@ -15,12 +15,12 @@ use Rattle.bounds.specs.Bounds.{int_bound}
 use Rattle.matches.specs.Table.{Pair, pairs}
 use Rattle.matches.proofs.Laws.{table_laws}
 use Rattle.search.specs.Setting.{Setting, has_int, has_memo, memo_room}
-use Rattle.search.specs.Trail.{Trail}
-use Rattle.search.specs.State.{State, root, removable, child}
+use Rattle.search.specs.Trail.{Trail, no_removal}
+use Rattle.search.specs.State.{State, root, removable, child, root_index}
 use Rattle.search.specs.Memo.{Entry, Memo, goes, stopped, full, remember, entry_of, key_of}
-use Rattle.search.specs.Search.{Run, Outcome, answers, halts, lower, int_stops, ask, tried, children, branch, counted, visit, search}
+use Rattle.search.specs.Search.{Run, Outcome, answers, halts, lower, int_stops, ask, tried, children, branch, counted, visit}
 use Rattle.search.specs.Inner.Claims.{Fine, held_of}
-use Rattle.search.proofs.Parts.{some}
+use Rattle.search.proofs.Starting.{run_at_root, search_lone, search_some}
 use Rattle.search.proofs.Least.{ask_off}
 use Rattle.search.proofs.Ends.{root_fine}
 use Rattle.molecule.proofs.Whole.{all_connected}
@@ -42,7 +42,7 @@ use Rattle.branch.specs.declared.removals.Removals.{Removals}
 use Rattle.state.specs.declared.scan.Rows.{Rows}
 use Rattle.state.specs.declared.scan.Owners.{Owners}
 use Rattle.state.specs.Inner.Scan.{rows_of}
-use Rattle.recurse.specs.Inner.Follows.{run_of, halted_as, Answered, Follows, Visited, Searches, Counted, Opened, Stopped as StoppedState, Ended, gate_of, Gated, OwnAnswer, better_of, Lowered}
+use Rattle.recurse.specs.Inner.Follows.{run_of, found_as, halted_as, Answered, Follows, Visited, Searches, Counted, Opened, Stopped as StoppedState, Ended, gate_of, Gated, OwnAnswer, better_of, Lowered}
 use Rattle.branch.specs.Inner.Branching.{Branched, Tries, Chooses, Below}
 use Rattle.branch.proofs.Branching.{pieces_own, below_falls}
 
@@ -422,10 +422,10 @@ module _ (r : Bytes) (setting : Setting) (room : ℕ) (s : code.State) (run : co
 
 -- ---- the root
 
-module _ (r : Bytes) (ok : check r ≡ accepted) (s : code.State) (e : state_of s ≡ root r (pairs r)) where
+module _ (r : Bytes) (ok : check r ≡ accepted) (one : 1 ≤ bonds r) (s : code.State) (e : state_of s ≡ root r (pairs r)) where
   root_part : (p : ℕ) → Mem p (root r (pairs r)).pieces → Connected r p
   unfolding root
-  root_part p i = let q : p ≡ all_bonds r = mem_one i in rw q (all_connected r ok)
+  root_part p i = let q : p ≡ all_bonds r = mem_one i in rw q (all_connected r ok one)
 
   root_both : length (root r (pairs r)).pieces + length (root r (pairs r)).trail.numbers ≤ 32
   unfolding root
@@ -450,8 +450,20 @@ module _ (r : Bytes) (ok : check r ≡ accepted) (s : code.State) (e : state_of 
   -- a removal strikes two bonds at least, so the depth of the search is enough
   pub root_found : (setting : Setting) (room n : ℕ) → bonds r ≡ n → (o : Result Found Halt) (words : List ℕ)
       → Visited r setting room s (record { best = n - 1; states = 0; entries = 0 }) [] o words → Searches r setting room o words
-  unfolding search
   root_found setting room n q o words w =
       let h : sum_of size (state_of s).pieces ≡ bonds r = ap (λ (x : State). sum_of size x.pieces) e ∙ root_sum in
-      subst (λ (x : State). Follows r (bonds r - 1) o words (visit r (pairs r) setting room (bonds r) x (record { best = bonds r - 1; states = 0; memo = [] }))) e
-      (rw q (w n (omega arith) (omega (arith, some r ok))))
+      rw (search_some r (pairs r) setting room one)
+      (subst (λ (x : State). Follows r (root_index r) o words (visit r (pairs r) setting room (bonds r) x (run_at_root r))) e (rw q (w n (omega arith) (omega arith))))
+
+-- without bonds no state is entered
+pub lone_found : (r : Bytes) → bonds r ≡ 0 → (setting : Setting) (room : ℕ) (o : Found) (words : List ℕ) → found_as o [] ≡ answers 0 no_removal (record { best = 0; states = 0; memo = [] })
+    → Stored r words o.run.entries [] → Searches r setting room (Ok o) words
+lone_found r lone setting room o words e w =
+    let run : run_of o.run [] ≡ record { best = 0; states = 0; memo = [] } = cc in
+    rw (search_lone r (pairs r) setting room lone)
+    (record {
+      memo = [];
+      is = ap (λ (n : ℕ). answers 0 no_removal (record { best = n - 1; states = 0; memo = [] })) lone ∙ sym e;
+      low = omega (arith, ap (λ (x : Run). x.best) run);
+      stored = w;
+    })

@@ -1,11 +1,13 @@
 // The search (src/assembly.rs): a state is entered, counted, and left with its answer.
-ghost use Rattle.std.specs.Prelude.{◌≡◌, List, ◌≤◌, length};
+ghost use Rattle.std.specs.Prelude.{◌≡◌, List, [], ◌≤◌, length};
 ghost use Rattle.search.specs.Setting.{memo_room};
 ghost use Rattle.search.specs.Memo.{Entry};
+ghost use Rattle.search.specs.Search.{answers};
+ghost use Rattle.search.specs.Trail.{no_removal};
 ghost use Rattle.branch.specs.Inner.Entered.{Entered};
 ghost use Rattle.desk.specs.Inner.Cached.{Cached};
 ghost use Rattle.memoize.specs.Inner.Stored.{Stored};
-ghost use Rattle.recurse.specs.Inner.Follows.{MayEnter, MayStart, Visited, Searches, IntStops, gate_of, Gated, OwnAnswer, better_of, Lowered};
+ghost use Rattle.recurse.specs.Inner.Follows.{MayEnter, MayStart, Visited, Searches, IntStops, gate_of, Gated, OwnAnswer, better_of, found_as, Lowered};
 
 use branch::searched::Searched;
 use canonize::Slate;
@@ -173,8 +175,24 @@ fn visit(
     Ok(lowered(found))
 }
 
+// What is found without bonds: no state is entered.
+fn nothing_entered() -> Found
+    ensures found { found_as result [] ≡ answers 0 no_removal (record { best = 0; states = 0; memo = [] }) }
+    ensures entries { result.run.entries ≡ 0 }
+{
+    Found {
+        index: 0,
+        trail: Trail::new(),
+        run: Run {
+            best: 0,
+            states: 0,
+            entries: 0,
+        },
+    }
+}
+
 // The search of a molecule of n bonds, from the root and with best n - 1.
-#[tactic(auto, using(search::proofs::Parts::few, search::proofs::Parts::some))]
+#[tactic(auto, using(search::proofs::Parts::few))]
 pub fn search(
     searched: &Searched,
     memo: &mut [u64],
@@ -185,6 +203,9 @@ pub fn search(
     ensures { Searches searched.now.molecule.now.bytes.now searched.now.setting (memo_room (length memo.old)) result memo.new }
 {
     let n = searched.molecule.bonds();
+    if n == 0 {
+        return Ok(nothing_entered());
+    }
     let s = state::root(n);
     let run = Run {
         best: n as u32 - 1,

@@ -3,7 +3,7 @@ use mathlib.Core.Path.{◌≡◌, refl}
 use mathlib.Core.Bool.{true, false, not, ◌||◌}
 use mathlib.Core.Logic.{◌⊎◌, inl, inr}
 use mathlib.Core.List.{List, [], ◌∷◌}
-use Prim.Native.Nat.{ℕ, zero, suc, ◌-◌, ◌≤◌}
+use Prim.Native.Nat.{ℕ, zero, suc, ◌≤◌, min}
 use native.Mathlib.Omega.{arith}
 use lib.Dec.{ltb}
 use lib.ListN.{length, get_or, length-append, length-set}
@@ -19,6 +19,7 @@ use Rattle.search.specs.State.{State, root, removable, child}
 use Rattle.search.specs.Memo.{Entry, same_key, Memo, goes, stopped, full, recall, remember, entry_of}
 use Rattle.search.specs.Search.{Run, Outcome, answers, halts, lower, int_stops, ask, tried, children, branch, counted, visit, search}
 use Rattle.search.specs.Inner.Claims.{held_of, Counts}
+use Rattle.search.proofs.Starting.{run_at_root, by_bonds}
 
 -- a memo that goes on has room
 abbrev Kept : ℕ → Memo → Type 0
@@ -131,8 +132,10 @@ module _ (r : Bytes) (ms : List Pair) (setting : Setting) (room : ℕ) where
       go (inl e) E = rw (e, visit) (counted_counts (visit r ms setting room f) E s (record { best = run.best; states = suc run.states; memo = run.memo }) (ltb-true run.states setting.budget e) y)
       go (inr e) E = rw (e, visit) (omega arith)
 
-  -- a search that answers has entered at least one state and at most as many as the budget, and its memo has room; a row's place is within the budget.
-  -- Each state entered counts itself, after the test that there is budget left; an entry is added only where there is room
-  pub search_counts : Counts setting room 1 (search r ms setting room)
-  unfolding search
-  search_counts = visit_counts (bonds r) (root r ms) (record { best = bonds r - 1; states = 0; memo = [] }) (omega arith) (omega arith)
+  -- a search that answers has entered at least one state, where there is a bond, and at most as many as the budget, and its memo has room; a row's place
+  -- is within the budget. Each state entered counts itself, after the test that there is budget left; an entry is added only where there is room
+  pub search_counts : Counts setting room (min 1 (bonds r)) (search r ms setting room)
+  search_counts =
+      by_bonds r ms setting room (Counts setting room (min 1 (bonds r)))
+      (λ none. (omega arith, omega arith, omega arith))
+      (λ some. let e : min 1 (bonds r) ≡ 1 = omega arith in rw e (visit_counts (bonds r) (root r ms) (run_at_root r) (omega arith) (omega arith)))

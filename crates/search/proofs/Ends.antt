@@ -31,10 +31,11 @@ use Rattle.search.specs.Memo.{Memo, goes, stopped, full}
 use Rattle.search.specs.Search.{Run, Outcome, answers, halts, lower, int_stops, ask, tried, children, branch, counted, visit, search}
 use Rattle.search.specs.Inner.Claims.{Removable, Inv, Fine, held_of, Ends}
 use Rattle.search.proofs.Lists.{sum_flat}
-use Rattle.search.proofs.Parts.{some, big_size, big_less}
+use Rattle.search.proofs.Parts.{big_size, big_less}
 use Rattle.search.proofs.Refine.{and_within, remove_first}
 use Rattle.search.proofs.TrailClaim.{tried_removable}
 use Rattle.search.proofs.Least.{ask_off, child_step, child_inv, root_inv}
+use Rattle.search.proofs.Starting.{run_at_root, by_bonds}
 
 -- pieces of two bonds or more are at most half as many as their bonds
 pub count_two : (P : List ℕ) → ((p : ℕ) → Mem p P → 2 ≤ size p) → 2 * length P ≤ sum_of size P
@@ -171,5 +172,7 @@ module _ (r : Bytes) (ok : check r ≡ accepted) (ms : List Pair) (M : Laws r ms
 
     -- the search answers, or halts on row 11 with the budget, or, with the memo on, on row 12; it never runs out of depth
     pub search_ends : Ends setting (search r ms setting room)
-    unfolding search root
-    search_ends = visit_ends (bonds r) (root r ms) (record { best = bonds r - 1; states = 0; memo = [] }) (root_inv r ok ms M) (omega (arith, size_first (bonds r))) (some r ok)
+    unfolding root
+    search_ends =
+        by_bonds r ms setting room (Ends setting) (λ none. tt)
+        (λ some. visit_ends (bonds r) (root r ms) (run_at_root r) (root_inv r ok ms M) (omega (arith, size_first (bonds r))) some)

@@ -13,9 +13,9 @@ use native.Mathlib.Omega.{arith}
 use native.Mathlib.Decide.{dec_lt}
 use lib.Bits.{and_self}
 use lib.Pow.{pow_pos}
-use lib.Dec.{eqb}
+use lib.Dec.{eqb, leb}
 use lib.ListN.{length}
-use borrow.Author.Tests.{eqb-true}
+use borrow.Author.Tests.{leb-true}
 use Rattle.bitset.proofs.Bools.{or_true, and_true}
 use Rattle.bitset.proofs.Laws.{size_first}
 use Rattle.molecule.specs.Lists.{Bytes}
@@ -52,7 +52,7 @@ module _ (r : Bytes) (ok : check r ≡ accepted) where
             rw q
             (record {
               own = omega (arith, pow_pos (bonds r));
-              whole = all_connected r ok;
+              whole = all_connected r ok (omega arith);
               two_bonds = omega (arith, size_first (bonds r));
               lies = (all, m_head refl, and_self all);
               has = (all, last, refl);
@@ -62,12 +62,12 @@ module _ (r : Bytes) (ok : check r ≡ accepted) where
   -- for every pathway some allowed series scores at most its joins
   pub pathway_series : (js : List Join) → is_pathway r js ≡ true → (τ : List ℕ) × (allowed r (pairs r) τ ≡ true) × (series_score r (pairs r) τ ≤ length js)
   unfolding is_pathway allowed series_score
-  pathway_series js e = go (dec_lt 1 (bonds r)) (or_true (eqb (bonds r) 1 && eqb (length js) 0) (is_pathway_after r [] js) e)
+  pathway_series js e = go (dec_lt 1 (bonds r)) (or_true (leb (bonds r) 1 && eqb (length js) 0) (is_pathway_after r [] js) e)
     where
-      go : Dec (1 < bonds r) → ((eqb (bonds r) 1 && eqb (length js) 0) ≡ true) ⊎ (is_pathway_after r [] js ≡ true)
+      go : Dec (1 < bonds r) → ((leb (bonds r) 1 && eqb (length js) 0) ≡ true) ⊎ (is_pathway_after r [] js ≡ true)
           → (τ : List ℕ) × (allowed r (pairs r) τ ≡ true) × (series_score r (pairs r) τ ≤ length js)
       go (no n) h = ([], unfold allowed_from in refl, omega arith)
-      go (yes l) (inl h) = absurd (omega (arith, eqb-true (bonds r) 1 (and_true (eqb (bonds r) 1) (eqb (length js) 0) h).0))
+      go (yes l) (inl h) = absurd (omega (arith, leb-true (bonds r) 1 (and_true (leb (bonds r) 1) (eqb (length js) 0) h).0))
       go (yes l) (inr h) =
           let all : ℕ = all_bonds r in
           let w = owing r ok (after [] js) (all ∷ []) (all ∷ []) 0 (start js l h) in

@@ -36,6 +36,7 @@ use Rattle.search.proofs.Lists.{refines_within}
 use Rattle.search.proofs.Refine.{one_apart, mem_removable, allowed_allows, keep_refines, letting_go}
 use Rattle.search.proofs.TrailClaim.{holds_at, tried_removable, child_within, root_within, visit_answers, search_trail}
 use Rattle.search.proofs.Bridge.{removal, keep_apart, remove_step, int_holds, usable_holds}
+use Rattle.search.proofs.Starting.{run_at_root, by_bonds}
 
 -- the claim of the loop over the removals ns: best is b before and b' after, answer is the least so far before, a after
 record Looped (r : Bytes) (ms : List Pair) (s : State) (held ns : List ℕ) (answer b a b' : ℕ) : Type 0 where
@@ -237,14 +238,19 @@ module _ (r : Bytes) (ok : check r ≡ accepted) (ms : List Pair) (M : Laws r ms
       pub visit_bounded : (f : ℕ) (s : State) (run : Run) (a : ℕ) (t : Trail) (run' : Run) → Inv r ms s → visit r ms setting room f s run ≡ answers a t run' → Bounded r ms s run.best a run'.best
       visit_bounded f s run a t run' I e = holds_at (λ a t run'. Bounded r ms s run.best a run'.best) (visit r ms setting room f s run) a t run' (visit_least f s run I) e
 
-      -- the search: no allowed series, the empty one included, scores less than the index. At the root best is n - 1, and the answer is at most that
+      -- the search: no allowed series, the empty one included, scores less than the index. At the root best is its index, and the answer is at most that
       pub search_least : (a : ℕ) (t : Trail) (run : Run) → search r ms setting room ≡ answers a t run → (τ : List ℕ) → allowed r ms τ ≡ true → a ≤ series_score r ms τ
-      unfolding search root allowed series_score
-      search_least a t run e τ h =
-          let run0 : Run = record { best = bonds r - 1; states = 0; memo = [] } in
-          let b = visit_bounded (bonds r) (root r ms) run0 a t run root_inv e in
-          let c = (visit_answers r ok ms setting room (bonds r) (root r ms) run0 a t run (root_within r ok ms) e).1 in
-          omega (arith, b.least τ (allowed_allows r ms 0 (all_bonds r ∷ []) τ h), c)
+      unfolding root allowed series_score
+      search_least a t run = by_bonds r ms setting room (λ o. o ≡ answers a t run → LeastOf) (λ none e τ h. let z : a ≡ 0 = cc in omega arith) entered
+        where
+          LeastOf : Type 0
+          LeastOf = (τ : List ℕ) → allowed r ms τ ≡ true → a ≤ series_score r ms τ
+
+          entered : 1 ≤ bonds r → visit r ms setting room (bonds r) (root r ms) (run_at_root r) ≡ answers a t run → LeastOf
+          entered some e τ h =
+              let b = visit_bounded (bonds r) (root r ms) (run_at_root r) a t run root_inv e in
+              let c = (visit_answers r ok ms setting room (bonds r) (root r ms) (run_at_root r) a t run (root_within r ok ms) e).1 in
+              omega (arith, b.least τ (allowed_allows r ms 0 (all_bonds r ∷ []) τ h), c)
 
       -- so the index is the least score, and the trail is a series that has it
       pub search_is_least : (a : ℕ) (t : Trail) (run : Run) → search r ms setting room ≡ answers a t run → IsLeastScore r ms a

@@ -11,7 +11,7 @@ use mathlib.Core.List.Memᴰ.{not-nil}
 use mathlib.Core.List.Memᴰ.{of_map as mem_of_map}
 use mathlib.Core.List.Memᴰ.{tail as m_tail}
 use mathlib.Core.List.{List, [], ◌∷◌, map, flat_map, Memᴰ as Mem}
-use Prim.Native.Nat.{ℕ, zero, suc, ◌-◌, ◌≤◌, min}
+use Prim.Native.Nat.{ℕ, zero, suc, ◌≤◌, min}
 use native.Mathlib.Omega.{arith}
 use native.Mathlib.Decide.{dec_le}
 use Rattle.bitset.specs.Bits.{size}
@@ -28,7 +28,7 @@ use Rattle.bounds.proofs.Numbers.{mem_sum}
 use Rattle.bounds.proofs.Steps.{step_apart, step_falls}
 use Rattle.search.specs.Setting.{Setting, has_memo}
 use Rattle.search.specs.Trail.{Trail}
-use Rattle.search.specs.State.{removable, remove}
+use Rattle.search.specs.State.{removable, remove, root_index}
 use Rattle.search.specs.Search.{Run, answers, search}
 use Rattle.search.specs.Series.{allowed, allowed_from, series_score, series_from, all_series, least_of, least_score, IsLeastScore}
 use Rattle.search.specs.Inner.Claims.{Allows}
@@ -109,12 +109,12 @@ module _ (r : Bytes) (ok : check r ≡ accepted) (ms : List Pair) (M : Laws r ms
   -- the least score that computes is the least score in words: no allowed series scores less, and one scores that
   pub least_score_lem : IsLeastScore r ms (least_score r ms)
   unfolding least_score all_series allowed
-  least_score_lem = go (least_reached r ms (bonds r - 1) (all_series r ms))
+  least_score_lem = go (least_reached r ms (root_index r) (all_series r ms))
     where
       below : (τ : List ℕ) → allowed r ms τ ≡ true → least_score r ms ≤ series_score r ms τ
-      below τ h = least_mem r ms (bonds r - 1) (all_series r ms) τ (allowed_listed τ h)
+      below τ h = least_mem r ms (root_index r) (all_series r ms) τ (allowed_listed τ h)
 
-      go : (least_score r ms ≡ bonds r - 1) ⊎ ((τ : List ℕ) × Mem τ (all_series r ms) × (series_score r ms τ ≡ least_score r ms)) → IsLeastScore r ms (least_score r ms)
+      go : (least_score r ms ≡ root_index r) ⊎ ((τ : List ℕ) × Mem τ (all_series r ms) × (series_score r ms τ ≡ least_score r ms)) → IsLeastScore r ms (least_score r ms)
       go (inl e) = record { least = below; series = []; is_allowed = unfold allowed_from in refl; scores = unfold series_score in (omega arith) }
       go (inr w) = record { least = below; series = w.0; is_allowed = allows_allowed r ms 0 (all_bonds r ∷ []) w.0 (listed_allows r ms (bonds r) 0 (all_bonds r ∷ []) w.0 w.1); scores = w.2 }
 

@@ -3,7 +3,7 @@
 use mathlib.Core.Path.{◌≡◌}
 use mathlib.Core.Bool.{true}
 use mathlib.Core.List.{List, [], ◌∷◌}
-use Prim.Native.Nat.{ℕ, suc, ◌+◌, ◌-◌, ◌*◌, ◌≤◌, ◌<◌, min}
+use Prim.Native.Nat.{ℕ, suc, ◌+◌, ◌*◌, ◌≤◌, ◌<◌, min}
 use native.Mathlib.Omega.{arith}
 use lib.ListN.{length}
 use Rattle.bitset.specs.Bits.{size}
@@ -21,11 +21,11 @@ use Rattle.bounds.proofs.Numbers.{mem_sum}
 use Rattle.bounds.proofs.ChainLaws.{log_bound}
 use Rattle.bounds.proofs.Steps.{step_apart, step_falls, series_less}
 use Rattle.bounds.proofs.Bounds.{int_whole, int_le, usable_le}
-use Rattle.search.specs.State.{State, removable, mask_of, remove}
+use Rattle.search.specs.State.{State, removable, mask_of, remove, root_index}
 use Rattle.search.specs.Series.{allowed, series_score}
 use Rattle.search.specs.Series.{saved}
 use Rattle.search.specs.Inner.Claims.{Allows, Fine}
-use Rattle.search.proofs.Parts.{few, some}
+use Rattle.search.proofs.Parts.{few}
 use Rattle.search.proofs.Refine.{one_within, one_apart, allowed_allows, remove_first, remove_within, mask_within}
 use Rattle.search.proofs.Bridge.{remove_step, series_of, saved_is}
 
@@ -73,10 +73,10 @@ module _ (r : Bytes) (ok : check r ≡ accepted) (ms : List Pair) (M : Laws r ms
 
   -- and fewer than 32
   pub allowed_fewer : (τ : List ℕ) → allowed r ms τ ≡ true → length τ < 32
-  allowed_fewer τ h = omega (arith, allowed_counts τ h, some r ok, few r ok)
+  allowed_fewer τ h = omega (arith, allowed_counts τ h, few r ok)
 
   -- its score is not cut short
-  pub series_exact : (τ : List ℕ) → allowed r ms τ ≡ true → series_score r ms τ + saved ms τ ≡ bonds r - 1
+  pub series_exact : (τ : List ℕ) → allowed r ms τ ≡ true → series_score r ms τ + saved ms τ ≡ root_index r
   unfolding allowed series_score
   series_exact τ h =
       let s = series_less (series_of r ok ms M 0 (all_bonds r ∷ []) τ (one_apart (all_bonds r)) (one_within (all_bonds r)) (allowed_allows r ms 0 (all_bonds r ∷ []) τ h)) in

@@ -24,12 +24,9 @@ use Rattle.search.specs.State.{big_components}
 use Rattle.search.proofs.Lists.{sum_filter}
 
 module _ (r : Bytes) (ok : check r ≡ accepted) where
-  -- an accepted record has from 1 to 64 bonds
+  -- an accepted record has 64 bonds at most
   pub few : bonds r ≤ 64
   few = (accepted_formed r ok).sized.few
-
-  pub some : 1 ≤ bonds r
-  some = (accepted_formed r ok).sized.some
 
   module _ (s : ℕ) (in_all : Sub s (all_bonds r)) where
     own : Own r s

@@ -14,7 +14,7 @@ use lib.Bits.{bit_and, and_self}
 use lib.Dec.{eqb, ltb, leb}
 use lib.Pow.{pow_pos}
 use lib.ListN.{length, length-append}
-use borrow.Author.Tests.{eqb-true, eqb-false, eq-eqb, ltb-true}
+use borrow.Author.Tests.{eqb-true, eqb-false, eq-eqb, ltb-true, leb-true, leb-false}
 use Rattle.bitset.specs.Bits.{Sub, Disjoint, is_sub, diff, size, low}
 use Rattle.bitset.proofs.Bools.{two, or_left, or_right, and_true}
 use Rattle.bitset.proofs.Laws.{size_minus, size_one, size_first, sub_trans}
@@ -43,6 +43,9 @@ use Rattle.search.proofs.Tests.{and_both, any_has, any_find, after_append, joins
 use Rattle.molecule.proofs.Whole.{all_connected}
 use Rattle.search.proofs.Building.{grown_builds}
 use Rattle.search.proofs.Rebuilding.{grown_done, split_pieces, one_built, one_done, two_done, one_count, two_count}
+use native.Mathlib.Decide.{dec_le}
+use Rattle.std.proofs.lemmas.List.{nil_from_length}
+use Rattle.search.proofs.Lone.{lone_series, lone_series_score, lone_pathway, lone_joins}
 
 -- the piece that a fragment is in
 abbrev piece_of : List ℕ → ℕ → ℕ
@@ -182,10 +185,6 @@ module _ (r : Bytes) (ms : List Pair) where
         each = λ x m. subst (Connected r) (sym (mem_only m)) whole;
       }
 
-      -- there is a bond, since a connected set is not empty
-      some_bonds : 0 < bonds r
-      some_bonds = let z : bonds r ≢ 0 = λ e. whole.some (ap (λ (n : ℕ). 2 ^ n - 1) e) in omega arith
-
       -- the series from the root on
       root_done : (τ : List ℕ) → allowed r ms τ ≡ true
           → Done r [] (all_bonds r ∷ []) (joins r ms τ) × (length (joins r ms τ) + sum_of (λ m. size_of ms m - 1) τ + 1 ≡ bonds r)
@@ -239,15 +238,14 @@ module _ (r : Bytes) (ms : List Pair) where
       -- the joins pass the test: one bond has none; of more the last union is all bonds
       joins_pathway : (τ : List ℕ) → allowed r ms τ ≡ true → is_pathway r (joins r ms τ) ≡ true
       unfolding is_pathway
-      joins_pathway τ e = go (two (eqb (bonds r) 1))
+      joins_pathway τ e = go (two (leb (bonds r) 1))
         where
-          go : (eqb (bonds r) 1 ≡ true) ⊎ (eqb (bonds r) 1 ≡ false) → is_pathway r (joins r ms τ) ≡ true
-          go (inl q) = or_left (eqb (bonds r) 1 && eqb (length (joins r ms τ)) 0) (is_pathway_after r [] (joins r ms τ))
-              (and_both q (eq-eqb (length (joins r ms τ)) 0 (omega (arith, (root_done τ e).1, eqb-true (bonds r) 1 q))))
+          go : (leb (bonds r) 1 ≡ true) ⊎ (leb (bonds r) 1 ≡ false) → is_pathway r (joins r ms τ) ≡ true
+          go (inl q) = or_left (leb (bonds r) 1 && eqb (length (joins r ms τ)) 0) (is_pathway_after r [] (joins r ms τ))
+              (and_both q (eq-eqb (length (joins r ms τ)) 0 (omega (arith, (root_done τ e).1, leb-true (bonds r) 1 q))))
           go (inr q) =
-              let ne : bonds r ≢ 1 = eqb-false (bonds r) 1 q in
-              or_right (eqb (bonds r) 1 && eqb (length (joins r ms τ)) 0) (is_pathway_after r [] (joins r ms τ))
-              (joins_test r few [] (joins r ms τ) (root_done τ e).0.lawful (root_ends τ e (omega (arith, some_bonds))))
+              or_right (leb (bonds r) 1 && eqb (length (joins r ms τ)) 0) (is_pathway_after r [] (joins r ms τ))
+              (joins_test r few [] (joins r ms τ) (root_done τ e).0.lawful (root_ends τ e (leb-false (bonds r) 1 q)))
 
 -- ---- demand 3: a record that check accepts, its own matches, an allowed series
 
@@ -260,11 +258,19 @@ module _ (r : Bytes) (ok : check r ≡ accepted) where
   -- Pieces that are ready are put together into those of the state before, from the last state back to the root: each part is a single bond, or made, or has h1's label;
   -- some part always meets what is there, since a piece is connected; and all bonds of an accepted record are
   pub series_pathway : (τ : List ℕ) → allowed r (pairs r) τ ≡ true → is_pathway r (joins r (pairs r) τ) ≡ true
-  series_pathway = joins_pathway r (pairs r) few (table_laws r ok).twins (all_connected r ok)
+  series_pathway τ e = go (dec_le 1 (bonds r))
+    where
+      go : Dec (1 ≤ bonds r) → is_pathway r (joins r (pairs r) τ) ≡ true
+      go (yes some) = joins_pathway r (pairs r) few (table_laws r ok).twins (all_connected r ok some) τ e
+      go (no h) = let lone : bonds r ≡ 0 = omega arith in rw (lone_series r ok lone τ e, lone_joins r ok lone) (lone_pathway r ok lone)
 
   -- they are exactly as many as the series scores: to grow a piece takes one join less than it has bonds, and a match of k bonds is made once for twice, which saves k − 1
   pub series_length : (τ : List ℕ) → allowed r (pairs r) τ ≡ true → length (joins r (pairs r) τ) ≡ series_score r (pairs r) τ
-  series_length = joins_length r (pairs r) few (table_laws r ok).twins (all_connected r ok)
+  series_length τ e = go (dec_le 1 (bonds r))
+    where
+      go : Dec (1 ≤ bonds r) → length (joins r (pairs r) τ) ≡ series_score r (pairs r) τ
+      go (yes some) = joins_length r (pairs r) few (table_laws r ok).twins (all_connected r ok some) τ e
+      go (no h) = let lone : bonds r ≡ 0 = omega arith in rw (lone_series r ok lone τ e, lone_joins r ok lone) (sym (lone_series_score r ok lone))
 
   -- so a pathway with exactly that many joins ends in the molecule
   pub series_has : (τ : List ℕ) → allowed r (pairs r) τ ≡ true → HasPathway r (series_score r (pairs r) τ)
@@ -274,14 +280,10 @@ module _ (r : Bytes) (ok : check r ≡ accepted) where
   pub least_has : (k : ℕ) → IsLeastScore r (pairs r) k → HasPathway r k
   least_has k h = subst (HasPathway r) h.scores (series_has h.series h.is_allowed)
 
-  -- one bond needs no join
-  pub one_bond : bonds r ≡ 1 → joins r (pairs r) [] ≡ []
+  -- one bond needs no join, and neither does a lone atom
+  pub one_bond : bonds r ≤ 1 → joins r (pairs r) [] ≡ []
   unfolding allowed allowed_from series_score
-  one_bond e = empty (joins r (pairs r) []) (omega (arith, series_length [] refl))
-    where
-      empty : (l : List Join) → length l ≡ 0 → l ≡ []
-      empty [] h = refl
-      empty (j ∷ l) h = absurd (omega arith)
+  one_bond e = nil_from_length (joins r (pairs r) []) (omega (arith, series_length [] refl))
 
 -- ---- worked: the chain of 4 with match 0 has a pathway of 2 joins, the chain of 7 with matches 6 and 8 one of 4
 

@@ -9,7 +9,7 @@ use mathlib.Core.List.Memᴰ.{head as m_head}
 use mathlib.Core.List.Memᴰ.{not-nil}
 use mathlib.Core.List.Memᴰ.{tail as m_tail}
 use mathlib.Core.List.{List, [], ◌∷◌, ◌++◌, map, Memᴰ as Mem}
-use Prim.Native.Nat.{ℕ, zero, suc, ◌-◌, ◌^◌, ◌<◌, min}
+use Prim.Native.Nat.{ℕ, zero, suc, ◌-◌, ◌^◌, ◌<◌, min, ◌≤◌}
 use native.Mathlib.Omega.{arith}
 use lib.Bits.{bit_and}
 use lib.Dec.{leb, ltb, eqb}
@@ -41,7 +41,7 @@ use Rattle.matches.proofs.Laws.{table_laws, read_back, unmarked_alike, match_tab
 use Rattle.bounds.specs.Inner.Removals.{PiecesWithin}
 use Rattle.search.specs.Setting.{Setting, Room, has_memo, memo_room}
 use Rattle.search.specs.Trail.{Trail, no_removal}
-use Rattle.search.specs.State.{State, struck, root, big_components, removable, mask_of, keep, remove, child}
+use Rattle.search.specs.State.{State, struck, root, big_components, removable, mask_of, keep, remove, child, root_index}
 use Rattle.search.specs.Memo.{Entry, Memo, goes, stopped, full, remember, key_of, entry_of}
 use Rattle.search.specs.Search.{Run, Outcome, answers, halts, lower, int_stops, ask, tried, children, branch, counted, visit, search}
 use Rattle.search.specs.Series.{saved, series_score, series_from, all_series, least_of, least_score}
@@ -57,6 +57,8 @@ use Rattle.search.proofs.Tests.{joins_test, joins_of}
 use Rattle.search.proofs.Fragments.{meets_in, meets_has}
 use Rattle.search.proofs.Making.{join_falls}
 use Rattle.search.proofs.Fewest.{least_is_fewest, fewest_is}
+use Rattle.search.proofs.Starting.{run_at_root, by_bonds, lone, search_lone, search_some}
+use native.Mathlib.Decide.{dec_le}
 
 -- each is a fragment of the record
 abbrev Fragments : Bytes → List ℕ → Type 0
@@ -84,8 +86,8 @@ module _ (r : Bytes) (ok : check r ≡ accepted) (ms : List Pair) (M : Laws r ms
   unfolding child
   child_fragments s held m = left_fragments held m
 
-  all_fragments : Fragments r (all_bonds r ∷ [])
-  all_fragments p i = let e : p ≡ all_bonds r = mem_one i in rw e (omega (arith, pow_pos (bonds r)), all_connected r ok)
+  all_fragments : 1 ≤ bonds r → Fragments r (all_bonds r ∷ [])
+  all_fragments some p i = let e : p ≡ all_bonds r = mem_one i in rw e (omega (arith, pow_pos (bonds r)), all_connected r ok some)
 
   module _ (q : Bytes) (alike : ReadAlike r q) where
     -- ---- states
@@ -185,10 +187,17 @@ module _ (r : Bytes) (ok : check r ≡ accepted) (ms : List Pair) (M : Laws r ms
 
       -- every state is entered with the same pieces and the same run, and answers the same
       pub search_alike : search r ms setting room ≡ search q ms setting room
-      unfolding search root
-      search_alike =
-          visit_alike (bonds r) (root r ms) all_fragments (record { best = bonds r - 1; states = 0; memo = [] })
-          ∙ ap (λ (n : ℕ). visit q ms setting room n (record { pieces = (2 ^ n - 1) ∷ []; index = n - 1; largest = n; next = 0; trail = no_removal }) (record { best = n - 1; states = 0; memo = [] })) alike.graph.count
+      unfolding root
+      search_alike = by_bonds r ms setting room (λ o. o ≡ search q ms setting room) (λ none. sym (search_lone q ms setting room (omega (arith, alike.graph.count)) ∙ no_state)) entered
+        where
+          no_state : lone q ms setting room ≡ lone r ms setting room
+          no_state = ap (λ (n : ℕ). answers 0 no_removal (record { best = n - 1; states = 0; memo = [] })) (sym alike.graph.count)
+
+          entered : 1 ≤ bonds r → visit r ms setting room (bonds r) (root r ms) (run_at_root r) ≡ search q ms setting room
+          entered some =
+              visit_alike (bonds r) (root r ms) (all_fragments some) (run_at_root r)
+              ∙ ap (λ (n : ℕ). visit q ms setting room n (record { pieces = (2 ^ n - 1) ∷ []; index = n - 1; largest = n; next = 0; trail = no_removal }) (record { best = n - 1; states = 0; memo = [] })) alike.graph.count
+              ∙ sym (search_some q ms setting room (omega (arith, alike.graph.count)))
 
     -- ---- allowed series
 
@@ -203,18 +212,22 @@ module _ (r : Bytes) (ok : check r ≡ accepted) (ms : List Pair) (M : Laws r ms
 
     -- the same series are allowed
     pub all_series_alike : all_series r ms ≡ all_series q ms
-    unfolding all_series
-    all_series_alike = series_from_alike (bonds r) 0 (all_bonds r ∷ []) all_fragments ∙ ap (λ (n : ℕ). series_from q ms n 0 ((2 ^ n - 1) ∷ [])) alike.graph.count
+    unfolding all_series series_from
+    all_series_alike = go (dec_le 1 (bonds r)) ∙ ap (λ (n : ℕ). series_from q ms n 0 ((2 ^ n - 1) ∷ [])) alike.graph.count
+      where
+        go : Dec (1 ≤ bonds r) → series_from r ms (bonds r) 0 (all_bonds r ∷ []) ≡ series_from q ms (bonds r) 0 (all_bonds r ∷ [])
+        go (yes some) = series_from_alike (bonds r) 0 (all_bonds r ∷ []) (all_fragments some)
+        go (no h) = let none : bonds r ≡ 0 = omega arith in rw (none, series_from) refl
 
     least_of_alike : (k : ℕ) (l : List (List ℕ)) → least_of r ms k l ≡ least_of q ms k l
     unfolding least_of series_score
     least_of_alike k [] = refl
-    least_of_alike k (τ ∷ l) = least_of_alike (min k (bonds r - 1 - saved ms τ)) l ∙ ap (λ (n : ℕ). least_of q ms (min k (n - 1 - saved ms τ)) l) alike.graph.count
+    least_of_alike k (τ ∷ l) = least_of_alike (min k (root_index r - saved ms τ)) l ∙ ap (λ (n : ℕ). least_of q ms (min k (n - 1 - saved ms τ)) l) alike.graph.count
 
     -- and their least score is the same
     pub least_score_alike : least_score r ms ≡ least_score q ms
     unfolding least_score
-    least_score_alike = least_of_alike (bonds r - 1) (all_series r ms) ∙ ap₂ (λ (n : ℕ) (l : List (List ℕ)). least_of q ms (n - 1) l) alike.graph.count all_series_alike
+    least_score_alike = least_of_alike (root_index r) (all_series r ms) ∙ ap₂ (λ (n : ℕ) (l : List (List ℕ)). least_of q ms (n - 1) l) alike.graph.count all_series_alike
 
 module _ (r q : Bytes) (ok : check r ≡ accepted) (ok' : check q ≡ accepted) (alike : ReadAlike r q) where
   -- ---- pathways
@@ -256,7 +269,7 @@ module _ (r q : Bytes) (ok : check r ≡ accepted) (ok' : check q ≡ accepted) 
   pub is_pathway_alike : (js : List Join) → is_pathway r js ≡ is_pathway q js
   unfolding is_pathway
   is_pathway_alike js =
-      ap₂ (λ (n : ℕ) (b : Bool). (eqb n 1 && eqb (length js) 0) || b) alike.graph.count
+      ap₂ (λ (n : ℕ) (b : Bool). (leb n 1 && eqb (length js) 0) || b) alike.graph.count
       (bool_iff (is_pathway_after r [] js) (is_pathway_after q [] js) (pathway_passes r q ok ok' alike js) (pathway_passes q r ok' ok (read_back r q alike (few r ok)) js))
 
   -- ---- score

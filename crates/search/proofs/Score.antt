@@ -5,7 +5,7 @@ use mathlib.Core.Bool.{Bool, true, false, ◌||◌}
 use mathlib.Core.Logic.{inl, inr}
 use mathlib.Core.List.Memᴰ.{of_map as mem_of_map}
 use mathlib.Core.List.{List, [], ◌∷◌, map, Memᴰ as Mem}
-use Prim.Native.Nat.{ℕ, ◌+◌, ◌-◌, ◌*◌, ◌≤◌, ◌<◌}
+use Prim.Native.Nat.{ℕ, ◌+◌, ◌-◌, ◌*◌, ◌≤◌, ◌<◌, min}
 use native.Mathlib.Omega.{arith}
 use lib.ListN.{length, length-take, length-map}
 use lib.Dec.{ltb}
@@ -21,7 +21,7 @@ use Rattle.matches.specs.Laws.{Laws}
 use Rattle.matches.specs.Rows.{table_answer}
 use Rattle.matches.proofs.Laws.{table_laws, pairs_length, size_of_two}
 use Rattle.search.specs.Setting.{Setting, has_memo, Room, memo_room}
-use Rattle.search.specs.Trail.{Trail, sizes_less_one, read}
+use Rattle.search.specs.Trail.{Trail, sizes_less_one, read, no_removal}
 use Rattle.search.specs.Search.{Run, Outcome, answers, halts, search}
 use Rattle.search.specs.Series.{allowed, series_score, least_score, IsLeastScore}
 use Rattle.search.specs.Pathway.{is_pathway, HasPathway, IsFewest, joins}
@@ -38,6 +38,8 @@ use Rattle.search.proofs.Ends.{search_ends}
 use Rattle.search.proofs.Numbers.{allowed_length, allowed_fewer, series_exact}
 use Rattle.search.proofs.Counting.{search_counts}
 use Rattle.search.proofs.Pathways.{series_pathway, series_length, one_bond}
+use Rattle.search.proofs.Starting.{run_at_root, search_lone}
+use Rattle.search.specs.State.{root_index}
 -- of an accepted record: no pathway has fewer joins than the least score, and the least score is the fewest joins
 pub use Rattle.search.proofs.Fewest.{pathway_series, fewest, least_is_fewest, fewest_is}
 
@@ -152,7 +154,7 @@ module _ (r : Bytes) (setting : Setting) (room : Room) (index matches states : �
   trail_scores = (search_trail r it.ok (pairs r) setting (memo_room room.memo) index trail it.run it.is).1
 
   -- no subtraction in it is cut short
-  pub trail_exact : index + saved (pairs r) trail.numbers ≡ bonds r - 1
+  pub trail_exact : index + saved (pairs r) trail.numbers ≡ root_index r
   trail_exact = omega (arith, trail_scores, series_exact r it.ok (pairs r) laws trail.numbers trail_allowed)
 
   -- they are at most n / 2
@@ -176,7 +178,7 @@ module _ (r : Bytes) (setting : Setting) (room : Room) (index matches states : �
       omega (arith, w.2, size_of_two r (pairs r) laws w.0 (allows_from r (pairs r) 0 (all_bonds r ∷ []) trail.numbers series w.0 w.1).1)
 
   -- and bonds less one is index plus the sum of (size less one)
-  pub sizes_sum : bonds r - 1 ≡ index + sizes_less_one trail
+  pub sizes_sum : root_index r ≡ index + sizes_less_one trail
   sizes_sum = rw trail_sizes (omega (arith, trail_exact, sum_map (λ k. k - 1) (size_of (pairs r)) trail.numbers))
 
   pub trail_long : 64 ≤ room.trail
@@ -231,12 +233,19 @@ module _ (r : Bytes) (setting : Setting) (room : Room) (index matches states : �
 
   -- ---- what is counted
 
-  counts : Counts setting (memo_room room.memo) 1 (answers index trail it.run)
+  counts : Counts setting (memo_room room.memo) (min 1 (bonds r)) (answers index trail it.run)
   counts = rw it.is at (search_counts r (pairs r) setting (memo_room room.memo))
 
-  -- at least one state was entered
-  pub states_some : 1 ≤ states
-  states_some = omega (arith, counts.0, it.entered)
+  -- at least one state was entered, where there is a bond
+  pub states_some : 1 ≤ bonds r → 1 ≤ states
+  states_some h = omega (arith, counts.0, it.entered)
+
+  -- and none where there is none
+  pub states_none : bonds r ≡ 0 → states ≡ 0
+  states_none none =
+      let e : answers 0 no_removal (run_at_root r) ≡ answers index trail it.run = sym (search_lone r (pairs r) setting (memo_room room.memo) none) ∙ it.is in
+      let w : run_at_root r ≡ it.run = cc in
+      it.entered ∙ sym (ap (λ (x : Run). x.states) w)
 
   -- and at most as many as the budget
   pub states_within : states ≤ setting.budget
@@ -260,11 +269,11 @@ scored_length r setting room index matches states k lent e l =
 -- ---- an accepted record
 
 -- no subtraction in the score of an allowed series is cut short: what it saves is at most bonds less one
-pub score_exact : (r : Bytes) → check r ≡ accepted → (τ : List ℕ) → allowed r (pairs r) τ ≡ true → series_score r (pairs r) τ + saved (pairs r) τ ≡ bonds r - 1
+pub score_exact : (r : Bytes) → check r ≡ accepted → (τ : List ℕ) → allowed r (pairs r) τ ≡ true → series_score r (pairs r) τ + saved (pairs r) τ ≡ root_index r
 score_exact r ok = series_exact r ok (pairs r) (table_laws r ok)
 
--- one bond needs no join
-pub bond_alone : (r : Bytes) → check r ≡ accepted → bonds r ≡ 1 → joins r (pairs r) [] ≡ []
+-- one bond needs no join, and neither does a lone atom
+pub bond_alone : (r : Bytes) → check r ≡ accepted → bonds r ≤ 1 → joins r (pairs r) [] ≡ []
 bond_alone r ok = one_bond r ok
 
 -- the least score that computes is the smallest of the scores of all allowed series
@@ -275,11 +284,11 @@ accepted_least r ok = least_score_lem r ok (pairs r) (table_laws r ok)
 pub accepted_ends : (r : Bytes) → check r ≡ accepted → (setting : Setting) (room : ℕ) → Ends setting (search r (pairs r) setting room)
 accepted_ends r ok setting room = search_ends r ok (pairs r) (table_laws r ok) setting room
 
-finished : (setting : Setting) (room : ℕ) (t : Table) (o : Outcome) → Ends setting o → Counts setting room 1 o → Finished setting (searched t o)
+finished : (setting : Setting) (room low : ℕ) (t : Table) (o : Outcome) → Ends setting o → Counts setting room low o → Finished setting (searched t o)
 unfolding searched
-finished setting room t (answers a trail run) h c = tt
-finished setting room t (halts n p) (inl h) c = inl h
-finished setting room t (halts n p) (inr h) c = inr (h.0, eqb-true setting.memo 1 h.1, c)
+finished setting room low t (answers a trail run) h c = tt
+finished setting room low t (halts n p) (inl h) c = inl h
+finished setting room low t (halts n p) (inr h) c = inr (h.0, eqb-true setting.memo 1 h.1, c)
 
 -- so a record that rows 1 to 10 accept is scored, or turned back on row 11 or 12
 pub score_ends : (r : Bytes) (setting : Setting) (room : Room) → entry_answer r setting room ≡ accepted → table_answer (match_table r) room.p room.pairs ≡ accepted
@@ -288,4 +297,4 @@ unfolding score_answer
 score_ends r setting room e f =
     let k : ℕ = memo_room room.memo in
     rw (e, f, score_answer)
-    (finished setting k (match_table r) (search r (pairs r) setting k) (accepted_ends r (entry_says r setting room e).0 setting k) (search_counts r (pairs r) setting k))
+    (finished setting k (min 1 (bonds r)) (match_table r) (search r (pairs r) setting k) (accepted_ends r (entry_says r setting room e).0 setting k) (search_counts r (pairs r) setting k))

@@ -5,7 +5,7 @@ use mathlib.Core.Logic.{◌⊎◌, inl, inr}
 use mathlib.Core.List.Memᴰ.{head as m_head}
 use mathlib.Core.List.Memᴰ.{tail as m_tail}
 use mathlib.Core.List.{List, [], ◌∷◌, map, append_assoc, append-nil, Memᴰ as Mem}
-use Prim.Native.Nat.{ℕ, zero, suc, ◌-◌, ◌≤◌}
+use Prim.Native.Nat.{ℕ, zero, suc, ◌≤◌}
 use native.Mathlib.Omega.{arith}
 use lib.Dec.{ltb, leb}
 use Rattle.bitset.proofs.Bools.{two}
@@ -18,7 +18,7 @@ use Rattle.bounds.specs.Numbers.{max_of, ceil_log2}
 use Rattle.bounds.specs.Bounds.{least_size}
 use Rattle.bounds.specs.Inner.Removals.{PiecesWithin}
 use Rattle.search.specs.Setting.{Setting, has_matchable_edges}
-use Rattle.search.specs.Trail.{Trail, with_removal}
+use Rattle.search.specs.Trail.{Trail, with_removal, no_removal}
 use Rattle.search.specs.State.{State, root, removable, mask_of, remove, child}
 use Rattle.search.specs.Memo.{Memo, goes, stopped, full}
 use Rattle.search.specs.Search.{Run, Outcome, answers, halts, lower, int_stops, ask, tried, children, branch, counted, visit, search}
@@ -26,6 +26,7 @@ use Rattle.search.specs.Series.{allowed, series_score}
 use Rattle.search.specs.Inner.Claims.{Refines, Removable, Allows, held_of, Holds, with_series, Continues}
 use Rattle.search.proofs.Lists.{refines_within}
 use Rattle.search.proofs.Refine.{one_within, removable_mem, allows_allowed, remove_within, remove_refines, allows_refines, keep_refines}
+use Rattle.search.proofs.Starting.{run_at_root, by_bonds, lone}
 
 -- a claim of an outcome, of an outcome that is an answer
 pub holds_at : (Q : ℕ → Trail → Run → Type 0) (o : Outcome) (a : ℕ) (t : Trail) (run : Run) → Holds o Q → o ≡ answers a t run → Q a t run
@@ -161,12 +162,24 @@ module _ (r : Bytes) (ok : check r ≡ accepted) (ms : List Pair) where
     -- V1 of the search, in words; and the sizes in the trail are those of its matches
     pub search_series : (a : ℕ) (t : Trail) (run : Run) → search r ms setting room ≡ answers a t run
         → Allows r ms 0 (all_bonds r ∷ []) t.numbers × (a ≡ series_score r ms t.numbers) × (t.sizes ≡ map (size_of ms) t.numbers)
-    unfolding search root series_score
-    search_series a t run e =
-        let w = (visit_answers (bonds r) (root r ms) (record { best = bonds r - 1; states = 0; memo = [] }) a t run root_within e).0 in
-        let same : t.numbers ≡ w.series = ap (λ (x : Trail). x.numbers) w.is in
-        let sizes : t.sizes ≡ map (size_of ms) w.series = ap (λ (x : Trail). x.sizes) w.is in
-        (rw same w.allows, rw same w.scores, rw same sizes)
+    unfolding root series_score
+    search_series a t run = by_bonds r ms setting room (λ o. o ≡ answers a t run → Series) no_state entered
+      where
+        Series : Type 0
+        Series = Allows r ms 0 (all_bonds r ∷ []) t.numbers × (a ≡ series_score r ms t.numbers) × (t.sizes ≡ map (size_of ms) t.numbers)
+
+        no_state : bonds r ≡ 0 → lone r ms setting room ≡ answers a t run → Series
+        no_state none e =
+            let index : 0 ≡ a = cc in
+            let trail : no_removal ≡ t = cc in
+            rw (← index, ← trail) (tt, omega arith, refl)
+
+        entered : 1 ≤ bonds r → visit r ms setting room (bonds r) (root r ms) (run_at_root r) ≡ answers a t run → Series
+        entered some e =
+            let w = (visit_answers (bonds r) (root r ms) (run_at_root r) a t run root_within e).0 in
+            let same : t.numbers ≡ w.series = ap (λ (x : Trail). x.numbers) w.is in
+            let sizes : t.sizes ≡ map (size_of ms) w.series = ap (λ (x : Trail). x.sizes) w.is in
+            (rw same w.allows, rw same w.scores, rw same sizes)
 
     -- and in the definitions' own: the trail is an allowed series, and the index is its score
     pub search_trail : (a : ℕ) (t : Trail) (run : Run) → search r ms setting room ≡ answers a t run → (allowed r ms t.numbers ≡ true) × (a ≡ series_score r ms t.numbers)

@@ -1,4 +1,4 @@
--- Document 01, 'Molecules to try': the starred rows as one checked table, by computing; what is lent afterwards; the memo; demand 3 on six molecules; pathways.
+-- Document 01, 'Molecules to try': the starred rows as one checked table, by computing; what is lent afterwards; the memo; demand 3 on seven molecules; pathways.
 use Rattle.std.specs.Prelude.{◌≡◌, refl, Bool, true, false, ◌&&◌, ℕ, suc, length, replicate, set, eqb}
 use mathlib.Core.List.{List, [], ◌∷◌, ◌++◌, map, flat_map}
 use Rattle.std.specs.Int.Count.{count_trailing_zeros}
@@ -127,6 +127,18 @@ pub other_rows :
 unfolding compute
 other_rows = refl
 
+-- document 02, 5/14: a lone atom with budget 0 and no table, under every setting; and where rows 3, 7 and 8 turn it back
+pub lone_rows :
+    map (λ setting. score_answer (chain 0) setting (lent 0 0 0))
+    (with_budget 0 ∷ usual ∷ boundless 0 ∷ boundless 1 ∷ record { bounds = 2; memo = 1; budget = 0 } ∷ [])
+    ++ (score_answer (set (chain 0) 2 0) usual ample
+    ∷ score_answer (chain 0) (record { bounds = 4; memo = 0; budget = 9 }) ample
+    ∷ score_answer (chain 0) usual (record { trail = 64; p = 0; pairs = 0; memo = 0; desk = 4095 })
+    ∷ [])
+    ≡ replicate 5 (scored 0 0 0 no_removal) ++ (turned_back 3 0 ∷ turned_back 7 0 ∷ turned_back 8 0 ∷ [])
+unfolding compute
+lone_rows = refl
+
 -- ---- what is lent, afterwards
 
 pub lent_after_score :
@@ -192,8 +204,8 @@ demand3 r index trail =
     && is_pathway r (joins r (pairs r) trail) && eqb (length (joins r (pairs r) trail)) index
 
 pub demand3_rows :
-    demand3 (chain 1) 0 [] ∷ demand3 (chain 3) 2 [] ∷ demand3 (chain 4) 2 (0 ∷ []) ∷ demand3 (chain 5) 3 (0 ∷ []) ∷ demand3 (carbons 4) 2 (0 ∷ []) ∷ demand3 oxygen 3 [] ∷ []
-    ≡ replicate 6 true
+    demand3 (chain 0) 0 [] ∷ demand3 (chain 1) 0 [] ∷ demand3 (chain 3) 2 [] ∷ demand3 (chain 4) 2 (0 ∷ []) ∷ demand3 (chain 5) 3 (0 ∷ []) ∷ demand3 (carbons 4) 2 (0 ∷ []) ∷ demand3 oxygen 3 [] ∷ []
+    ≡ replicate 7 true
 unfolding compute
 demand3_rows = refl
 
@@ -230,6 +242,9 @@ series_joins = record { four_allowed = refl; four_score = refl; four = refl; fou
 pub record Tests : Type 0 where
   pub four : is_pathway (chain 4) (join 4 8 ∷ join 12 3 ∷ []) ≡ true
   pub one : is_pathway (chain 1) [] ≡ true
+  pub lone : is_pathway (chain 0) [] ≡ true
+  -- nothing to join in a lone atom
+  pub lone_joined : is_pathway (chain 0) (join 0 0 ∷ []) ≡ false
   -- no join for two bonds; not all bonds at the end
   pub two : is_pathway (chain 2) [] ≡ false
   pub short : is_pathway (chain 3) (join 1 2 ∷ []) ≡ false
@@ -240,7 +255,7 @@ pub record Tests : Type 0 where
 
 pub tests : Tests
 unfolding compute
-tests = record { four = refl; one = refl; two = refl; short = refl; unready = refl; unmet = refl; overlap = refl }
+tests = record { four = refl; one = refl; lone = refl; lone_joined = refl; two = refl; short = refl; unready = refl; unmet = refl; overlap = refl }
 
 -- ---- a pathway with more joins than the index, and the series that comes out of it
 

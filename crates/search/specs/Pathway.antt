@@ -1,5 +1,5 @@
 -- Document 01, 'Search': pathways. The test of a list of joins, and the joins that a trail gives (demand 3).
-use Rattle.std.specs.Prelude.{◌≡◌, Bool, true, false, not, ◌&&◌, ◌||◌, ℕ, zero, suc, ◌^◌, ◌≤◌, length, get_or, take, drop, eqb}
+use Rattle.std.specs.Prelude.{◌≡◌, Bool, true, false, not, ◌&&◌, ◌||◌, ℕ, zero, suc, ◌^◌, ◌≤◌, length, get_or, take, drop, leb, eqb}
 use mathlib.Core.List.{List, [], ◌∷◌, ◌++◌, map, flat_map}
 use Rattle.std.specs.Int.Bits.{bit_or}
 use Rattle.bitset.specs.Bits.{size, members, diff, low, is_sub, is_disjoint, unions}
@@ -56,9 +56,9 @@ module _ (r : Bytes) where
   is_pathway_after (u ∷ made) [] = eqb u (all_bonds r)
   is_pathway_after made (j ∷ js) = is_join made j && is_pathway_after (union j ∷ made) js
 
-  -- one bond needs no join
+  -- one bond needs no join, and neither does a lone atom, whose pathway is the empty one (document 02, 5/14)
   unfoldable pub is_pathway : List Join → Bool
-  is_pathway js = (eqb (bonds r) 1 && eqb (length js) 0) || is_pathway_after [] js
+  is_pathway js = (leb (bonds r) 1 && eqb (length js) 0) || is_pathway_after [] js
 
   -- demand 3: a pathway with exactly k joins ends in the molecule
   pub record HasPathway (k : ℕ) : Type 0 where

@@ -1,13 +1,13 @@
 -- Document 01, 'Search': entering a state, its children, its answer, and the trail; rows 11 and 12 in the order met.
-use Rattle.std.specs.Prelude.{Bool, true, false, ◌&&◌, List, [], ◌∷◌, ℕ, zero, suc, ◌+◌, ◌-◌, min, ltb, leb}
+use Rattle.std.specs.Prelude.{Bool, true, false, ◌&&◌, List, [], ◌∷◌, ℕ, zero, suc, ◌+◌, min, ltb, leb, eqb}
 use Rattle.molecule.specs.Lists.{Bytes, filter}
 use Rattle.molecule.specs.Record.{bonds}
 use Rattle.matches.specs.Table.{Pair, size_of}
 use Rattle.bounds.specs.Numbers.{max_of, ceil_log2}
 use Rattle.bounds.specs.Bounds.{int_bound, least_size}
 use Rattle.search.specs.Setting.{Setting, has_int, has_matchable_edges, has_memo}
-use Rattle.search.specs.Trail.{Trail}
-use Rattle.search.specs.State.{State, root, removable, mask_of, keep, child}
+use Rattle.search.specs.Trail.{Trail, no_removal}
+use Rattle.search.specs.State.{State, root_index, root, removable, mask_of, keep, child}
 use Rattle.search.specs.Memo.{Entry, Memo, goes, stopped, full, remember, entry_of}
 
 -- what the search carries from state to state: best, the states entered, the memo
@@ -81,6 +81,12 @@ module _ (r : Bytes) (ms : List Pair) (setting : Setting) (room : ℕ) where
     | false ↦ halts 11 setting.budget
   ]
 
-  -- from the root, with best n − 1. A removal strikes two bonds at least, so n levels are enough
+  -- from the root, with its index as best. A removal strikes two bonds at least, so n levels are enough.
+  -- Document 02, 5/14: without bonds no state is entered, and the answer is 0 with no removal, whatever the budget
   unfoldable pub search : Outcome
-  search = visit (bonds r) (root r ms) (record { best = bonds r - 1; states = 0; memo = [] })
+  search =
+      let start : Run = record { best = root_index r; states = 0; memo = [] } in
+      elim (eqb (bonds r) 0) [
+        | true ↦ answers 0 no_removal start
+        | false ↦ visit (bonds r) (root r ms) start
+      ]

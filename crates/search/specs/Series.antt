@@ -5,7 +5,7 @@ use Rattle.molecule.specs.Lists.{Bytes}
 use Rattle.bounds.specs.Numbers.{sum_of}
 use Rattle.molecule.specs.Record.{bonds, all_bonds}
 use Rattle.matches.specs.Table.{Pair, pair, size_of}
-use Rattle.search.specs.State.{inside, removable, remove}
+use Rattle.search.specs.State.{root_index, inside, removable, remove}
 
 -- what a series of matches saves: size less one for each
 abbrev pub saved : List Pair → List ℕ → ℕ
@@ -23,9 +23,9 @@ module _ (r : Bytes) (ms : List Pair) where
   unfoldable pub allowed : List ℕ → Bool
   allowed τ = allowed_from 0 (all_bonds r ∷ []) τ
 
-  -- bonds less one, less what the series saves
+  -- bonds less one, less what the series saves; without bonds there is the empty series alone, whose score is defined as 0 (document 02, 5/14)
   unfoldable pub series_score : List ℕ → ℕ
-  series_score τ = bonds r - 1 - saved ms τ
+  series_score τ = root_index r - saved ms τ
 
   -- every series that is allowed from here, of up to f removals
   unfoldable pub series_from : ℕ → ℕ → List ℕ → List (List ℕ)
@@ -42,9 +42,9 @@ module _ (r : Bytes) (ms : List Pair) where
   least_of k [] = k
   least_of k (τ ∷ l) = least_of (min k (series_score τ)) l
 
-  -- the least score: the smallest over all allowed series (the empty one scores n − 1)
+  -- the least score: the smallest over all allowed series (the empty one scores the root's index)
   unfoldable pub least_score : ℕ
-  least_score = least_of (bonds r - 1) all_series
+  least_score = least_of (root_index r) all_series
 
   -- the same in words: no allowed series scores less than k, and one scores k
   pub record IsLeastScore (k : ℕ) : Type 0 where

@@ -29,10 +29,14 @@ inside pieces h = any (is_sub h) pieces
 unfoldable pub big_components : Bytes → ℕ → List ℕ
 big_components r s = filter (λ c. leb 2 (size c)) (components r s)
 
+-- the root's index: n − 1; without bonds it is defined as 0 (document 02, 5/14)
+abbrev pub root_index : Bytes → ℕ
+root_index r = bonds r - 1
+
 module _ (r : Bytes) (ms : List Pair) where
   -- the root holds all bonds as one piece, index n − 1, largest removed n, last removed −1
   unfoldable pub root : State
-  root = record { pieces = all_bonds r ∷ []; index = bonds r - 1; largest = bonds r; next = 0; trail = no_removal }
+  root = record { pieces = all_bonds r ∷ []; index = root_index r; largest = bonds r; next = 0; trail = no_removal }
 
   -- removable are the matches numbered after last removed with both fragments inside pieces
   unfoldable pub removable : List ℕ → ℕ → List ℕ

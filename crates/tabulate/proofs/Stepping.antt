@@ -316,7 +316,6 @@ module _ {r : Bytes} {parts : List ℕ} {p k from to : ℕ} (w : Sizing r parts 
             sizing_done = record {
               held = record {
                 wide = omega (arith, b.long, o.long, c.long, sizing_wide);
-                some = w.held.some;
                 clamped = w.held.clamped;
                 nodes = λ i l. rw (next_nodes r k some) (f.noded.numbers i (omega (arith, all_nodes)));
                 starts = starts_of;
@@ -340,7 +339,7 @@ pub record Laid (old now : List ℕ) (p i : ℕ) : Type 0 where
   pub nodes : (j : ℕ) → j < i → get_or now j 0 ≡ 2 ^ j
   pub starts : (j : ℕ) → j < i → get_or now (8 * p + j) 0 ≡ j
 
-module _ (r : Bytes) (old now : List ℕ) (p : ℕ) (w : Laid old now p (bonds r)) (some : 0 < p) (clamped : p ≤ 4294967295) (wide : 12 * p ≤ length old) (fits : bonds r ≤ p) where
+module _ (r : Bytes) (old now : List ℕ) (p : ℕ) (w : Laid old now p (bonds r)) (clamped : p ≤ 4294967295) (wide : 12 * p ≤ length old) (fits : bonds r ≤ p) where
   single_at : (i : ℕ) → i < bonds r → get_or (singles r) i 0 ≡ 2 ^ i
   unfolding singles
   single_at i h = list_at (λ (j : ℕ). 2 ^ j) 0 (bonds r) i 0 h ∙ ap (λ (n : ℕ). 2 ^ n) (zero-add i)
@@ -355,7 +354,6 @@ module _ (r : Bytes) (old now : List ℕ) (p : ℕ) (w : Laid old now p (bonds r
   unfolding table_at sizes nodes_at
   held_start = record {
     wide = omega (arith, w.long);
-    some = some;
     clamped = clamped;
     nodes = λ i h. let l : i < bonds r = omega (arith, singles_length r) in w.nodes i l ∙ sym (single_at i l);
     starts = alone;
@@ -367,7 +365,7 @@ module _ (r : Bytes) (old now : List ℕ) (p : ℕ) (w : Laid old now p (bonds r
       need (suc zero) h = fits
       need (suc (suc i)) h = absurd (omega arith)
 
-pub laid_held : {r : Bytes} {old now : List ℕ} {p i : ℕ} → Laid old now p i → bonds r ≤ i → 0 < p → bonds r ≤ p → p ≤ 4294967295 → 12 * p ≤ length old
+pub laid_held : {r : Bytes} {old now : List ℕ} {p i : ℕ} → Laid old now p i → bonds r ≤ i → bonds r ≤ p → p ≤ 4294967295 → 12 * p ≤ length old
     → Stage r now p 0
-laid_held {r} {old} {now} {p} w h some fits clamped wide =
-    held_start r old now p (record { long = w.long; nodes = λ j l. w.nodes j (omega arith); starts = λ j l. w.starts j (omega arith) }) some clamped wide fits
+laid_held {r} {old} {now} {p} w h fits clamped wide =
+    held_start r old now p (record { long = w.long; nodes = λ j l. w.nodes j (omega arith); starts = λ j l. w.starts j (omega arith) }) clamped wide fits

@@ -12,7 +12,7 @@ use molecule::Molecule;
 
 // The n single bonds are the nodes, each alone in its group.
 pub fn start(parts: &mut [u64], p: usize, n: usize)
-    requires { (0 < p) × (n ≤ p) × (n ≤ 64) × (12 * p ≤ length parts.old) × (p ≤ 4294967295) }
+    requires { (n ≤ p) × (n ≤ 64) × (12 * p ≤ length parts.old) × (p ≤ 4294967295) }
     ensures { (r : Bytes) → bonds r ≡ n → Stage r parts.new p 0 }
 {
     for i in 0..n {

@@ -12,6 +12,6 @@ pub returns-then-length-a-clause-err : goal.returns-then-length-a-clause-err
 unfolding check bad_length row
 returns-then-length-a-clause-err c = grind (arith, nat_tests)
 
-pub returns-then-n-eq0-clause-err : goal.returns-then-n-eq0-clause-err
+pub returns-then-n-gt64-clause-err : goal.returns-then-n-gt64-clause-err
 unfolding check bad_length bad_counts row
-returns-then-n-eq0-clause-err c = grind (arith, nat_tests)
+returns-then-n-gt64-clause-err c = grind (arith, nat_tests)

@@ -1,13 +1,13 @@
 -- What the code's search answers, as the outcome of its definition.
-use Rattle.std.specs.Prelude.{◌≡◌, Bool, List, [], ℕ, suc, ◌-◌, ◌≤◌, min, Option, Some, None, Result, Ok, Err, ltb}
+use Rattle.std.specs.Prelude.{◌≡◌, Bool, List, [], ℕ, suc, ◌≤◌, min, Option, Some, None, Result, Ok, Err, ltb}
 use Rattle.bitset.specs.Bits.{size}
 use Rattle.molecule.specs.Lists.{Bytes, pick}
-use Rattle.molecule.specs.Record.{bonds}
 use Rattle.bounds.specs.Numbers.{sum_of}
 use Rattle.matches.specs.Table.{Pair, pairs}
 use Rattle.search.specs.Setting.{Setting, has_int}
 use Rattle.search.specs.Memo.{Entry}
 use Rattle.search.specs.Search as search
+use Rattle.search.specs.State.{root_index}
 use Rattle.state.specs.declared.State.{State}
 use Rattle.recurse.specs.declared.visit.Run.{Run}
 use Rattle.recurse.specs.declared.visit.Found.{Found}
@@ -53,7 +53,7 @@ Visited r setting room s run m o words = (f : ℕ) → sum_of size (state_of s).
 
 -- and of the search
 abbrev pub Searches : Bytes → Setting → ℕ → Result Found Halt → List ℕ → Type 0
-Searches r setting room o words = Follows r (bonds r - 1) o words (search.search r (pairs r) setting room)
+Searches r setting room o words = Follows r (root_index r) o words (search.search r (pairs r) setting room)
 
 -- ---- what the search is given
 

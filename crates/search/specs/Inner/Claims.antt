@@ -10,7 +10,7 @@ use Rattle.bounds.specs.Numbers.{sum_of}
 use Rattle.bounds.specs.Inner.Removals.{InOnePiece, PiecesWithin}
 use Rattle.search.specs.Setting.{Setting, has_memo}
 use Rattle.search.specs.Trail.{Trail}
-use Rattle.search.specs.State.{State, removable, mask_of, keep, remove}
+use Rattle.search.specs.State.{State, removable, mask_of, keep, remove, root_index}
 use Rattle.search.specs.Search.{Run, Outcome, answers, halts}
 use Rattle.search.specs.Series.{saved}
 
@@ -49,7 +49,7 @@ pub record Fine (r : Bytes) (ms : List Pair) (s : State) : Type 0 where
   pub weight : sum_of size s.pieces + 2 * length s.trail.numbers ≤ bonds r
   -- no subtraction of the search or its bounds is cut short
   pub covered : sum_of (λ (p : ℕ). size p - 1) s.pieces ≤ s.index
-  pub exact : s.index + saved ms s.trail.numbers ≡ bonds r - 1
+  pub exact : s.index + saved ms s.trail.numbers ≡ root_index r
   -- some piece has as many bonds as the largest removed
   pub widest : (p : ℕ) × Memᴰ p s.pieces × (size p ≡ s.largest)
 

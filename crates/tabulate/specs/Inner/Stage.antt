@@ -21,7 +21,6 @@ module _ (r : Bytes) where
 -- parts holds the table after k sizes, all of which had room
 pub record Stage (r : Bytes) (parts : List ℕ) (p k : ℕ) : Type 0 where
   pub wide : 12 * p ≤ length parts
-  pub some : 0 < p
   pub clamped : p ≤ 4294967295
   pub nodes : (i : ℕ) → i < nodes_at r (suc k) → get_or parts i 0 ≡ get_or (table_at r k).nodes i 0
   pub starts : Starts r (table_at r k).nodes (start_in parts p)

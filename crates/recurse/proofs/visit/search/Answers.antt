@@ -1,8 +1,8 @@
--- The root may be entered, and the search is its visit.
+-- The root may be entered, and the search is its visit; without bonds it enters none.
 use Rattle.std.proofs.Common.{[], sym, arith}
 use Rattle.matches.specs.Table.{pairs}
 use Rattle.search.proofs.Parts.{few}
-use Rattle.recurse.proofs.Turns.{root_entered, root_found}
+use Rattle.recurse.proofs.Turns.{root_entered, root_found, lone_found}
 use Rattle.recurse.proofs.visit.search.Goals as goal
 
 pub visit-requires : goal.visit-requires
@@ -12,11 +12,18 @@ visit-requires c =
     let n = c.bonds-n.ensures in
     let s = c.root-s in
     record {
-      entered = root_entered M.bytes.now M.accepted s.result (s.ensures M.bytes.now (pairs M.bytes.now) (sym n));
+      entered = root_entered M.bytes.now M.accepted (omega arith) s.result (s.ensures M.bytes.now (pairs M.bytes.now) (sym n));
       low = omega (arith, n, few M.bytes.now M.accepted);
       cached = p.cached;
       stored = ([], p.stored);
     }
+
+pub returns-then-n-eq0 : goal.returns-then-n-eq0
+returns-then-n-eq0 c =
+    let a = c.args in
+    let r = a.searched.now.molecule.now.bytes.now in
+    let n = c.nothing_entered in
+    lone_found r (omega (arith, c.bonds-n.ensures)) a.searched.now.setting _ n.result a.memo.now n.ensures.found (rw n.ensures.entries c.requires.stored)
 
 pub returns : goal.returns
 returns c =
@@ -25,4 +32,4 @@ returns c =
     let n = sym c.bonds-n.ensures in
     let s = c.root-s in
     let v = c.visit in
-    root_found M.bytes.now M.accepted s.result (s.ensures M.bytes.now (pairs M.bytes.now) n) a.searched.now.setting _ c.bonds-n.result n v.result v.new.memo (v.ensures.follows [] c.requires.stored)
+    root_found M.bytes.now M.accepted (omega arith) s.result (s.ensures M.bytes.now (pairs M.bytes.now) n) a.searched.now.setting _ c.bonds-n.result n v.result v.new.memo (v.ensures.follows [] c.requires.stored)

@@ -9,7 +9,7 @@ pub start-requires : goal.start-requires
 start-requires c =
     let q = c.requires in
     let f = (accepted_formed _ c.args.molecule.now.accepted).sized in
-    (omega (arith, f.some, c.bonds.ensures), omega (arith, c.bonds.ensures), omega (arith, f.few, c.bonds.ensures), q.2, q.1)
+    (omega (arith, c.bonds.ensures), omega (arith, f.few, c.bonds.ensures), q.2, q.1)
 
 pub loop-from-init : goal.loop-from-init
 loop-from-init c = walking_start _ (c.start.ensures _ (sym c.bonds.ensures)) c.bonds-to.ensures (omega arith)

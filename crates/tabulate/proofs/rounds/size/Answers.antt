@@ -14,7 +14,7 @@ clearing c =
     cleared _ _ _ _ (sizing_few w m.accepted m.touching v) (omega (arith, sizing_wide w m.accepted m.touching v)) c.zero_part.ensures
 
 pub candidates-requires : goal.candidates-requires
-candidates-requires c = let w = c.requires.1 in (w.held.some, omega (arith, w.held.wide), omega (arith, w.parents), sizing_room w)
+candidates-requires c = let w = c.requires.1 in (omega (arith, w.parents, sizing_room w), omega (arith, w.held.wide), omega (arith, w.parents), sizing_room w)
 
 pub returns-in_err-count : goal.returns-in_err-count
 returns-in_err-count c = let m = c.args.molecule.now in λ k w. rw c.from_residual.ensures (sizing_over w m.accepted m.touching c.in_err-count.ensures.1)

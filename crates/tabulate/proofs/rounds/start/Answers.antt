@@ -6,4 +6,4 @@ use Rattle.tabulate.proofs.rounds.start.Goals as goal
 pub returns : goal.returns
 returns c r e =
     let q = c.requires in
-    laid_held c.loop-i.invariant (omega arith) q.0 (omega arith) q.4 q.3
+    laid_held c.loop-i.invariant (omega arith) (omega arith) q.3 q.2
