@@ -160,9 +160,20 @@ static void hold(const struct table *table, int cleared, uint64_t lent)
             broken(table->name, i, i < zeros ? "not cleared" : "touched");
 }
 
+/* The index of the root of an accepted record: its bonds less one for each tree that has any. A tree has one atom more than bonds, so there
+ * are as many such trees as atoms with a bond less bonds. */
+static uint32_t root_index(const uint8_t *record)
+{
+    uint32_t atoms = record[0], bonds = record[1], joined = 0;
+    const uint8_t *ends = record + 2 + 2 * atoms;
+    for (uint32_t v = 0; v < atoms; v++)
+        joined += memchr(ends, (int)v, 2 * bonds) != NULL;
+    return bonds - (joined - bonds);
+}
+
 /* The trail after a score with k removals: two arrays of 32, in each k numbers that the call has written and then zeros. Sizes are two at
- * least, and bonds less one, or 0 of a lone atom, is index plus the sum of (size less one). Later numbers are as they were filled. */
-static void hold_scored(const uint32_t *trail, struct pazgelk_score reply, uint32_t bonds)
+ * least, and the root's index is index plus the sum of (size less one). Later numbers are as they were filled. */
+static void hold_scored(const uint32_t *trail, struct pazgelk_score reply, uint32_t root)
 {
     uint64_t sum = reply.index;
     if (reply.length > ARRAY)
@@ -179,7 +190,7 @@ static void hold_scored(const uint32_t *trail, struct pazgelk_score reply, uint3
             broken("trail", i, "no size");
         sum += trail[i] - 1;
     }
-    if (sum != (bonds == 0 ? 0 : bonds - 1))
+    if (sum != root)
         broken("trail", ARRAY, "not a size that fits the index");
 }
 
@@ -248,7 +259,7 @@ static int answer_score(char **words, int n)
         assembly_score(record, (size_t)length, (uint32_t)setting[0], (uint32_t)setting[1], (uint32_t)setting[2], trail, (size_t)numbers,
                        parts.words, (size_t)lent[0], pairs.words, (size_t)lent[1], memo.words, (size_t)lent[2], desk.words, (size_t)lent[3]);
     if (reply.number == 0)
-        hold_scored(trail, reply, record[1]);
+        hold_scored(trail, reply, root_index(record));
     else
         hold_trail(trail);
     for (int i = 0; i < 4; i++)

@@ -6,8 +6,8 @@
 >>> pazgelk.score("c1ccccc1").reason
 'it has a ring: only ring-free molecules are scored'
 
-A compound is a SMILES, an RDKit molecule or a Compound. Nothing is scored that the engine does not score: a result whose status is
-not scored has no score, and says why.
+A compound is a SMILES, an RDKit molecule or a Compound. One of several parts is scored as a mixture, and score_blend scores several
+compounds together. Nothing is scored that the engine does not score: a result whose status is not scored has no score, and says why.
 """
 
 from __future__ import annotations
@@ -16,7 +16,8 @@ from collections.abc import Iterable
 from typing import TYPE_CHECKING
 
 from . import batch, engine, messages
-from .batch import score_many
+from .batch import score_blend, score_many
+from .blends import Blend
 from .model import Checked, Compound, NotReady, Removal, Result, Settings, Status
 from .searcher import search_in_child
 from .structures import Structure
@@ -26,6 +27,7 @@ if TYPE_CHECKING:
 
 __version__ = "0.1.0"
 __all__ = [
+    "Blend",
     "Checked",
     "Compound",
     "NotReady",
@@ -36,6 +38,7 @@ __all__ = [
     "check",
     "label",
     "score",
+    "score_blend",
     "score_many",
 ]
 

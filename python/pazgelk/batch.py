@@ -16,7 +16,8 @@ from dataclasses import dataclass
 from itertools import islice
 from typing import TYPE_CHECKING, Protocol
 
-from . import engine, messages, structures, toolkit
+from . import blends, engine, messages, structures, toolkit
+from .blends import Blend
 from .model import Compound, NotReady, Progress, Result, Settings, Status, Stopped
 from .searcher import Searcher, ready, search_in_child
 from .structures import Structure
@@ -52,13 +53,38 @@ def score_many(
     engine.library()
     toolkit.chem()
     place = _place(executor, jobs)
-    return _results(map(_compound, compounds), settings, place, _Ticker(progress))
+    return _results(map(compound_of, compounds), settings, place, _Ticker(progress))
+
+
+def score_blend(
+    compounds: Iterable[Compound | str | Chem.Mol],
+    settings: Settings = Settings(),
+    *,
+    executor: Executor | None = None,
+    jobs: int | None = None,
+    progress: Progress | None = None,
+) -> Blend:
+    """Compounds scored together, where what is made for one may be used for another, and each on its own.
+
+    Its words are those of score_many, and it raises the same. Where a compound has no structure that is searched, the blend is
+    turned back, and its reason names that compound.
+
+    >>> blend = score_blend(["CCCCC", "CCCC"])
+    >>> blend.result.score, blend.sum, blend.shared
+    (3, 4, 1)
+    """
+    members = tuple(map(compound_of, compounds))
+    found = score_many((*members, Compound(blend=members)), settings, executor=executor, jobs=jobs, progress=progress)
+    *own, joint = found
+    return blends.blend_of(joint, members, own)
 
 
 def read(compound: Compound) -> Structure | Result:
     """The structure of a compound, or the result of one that is turned back."""
     if compound.problem is not None:
         return compound.problem
+    if compound.blend is not None:
+        return blends.read(compound.blend, read)
     if compound.molecule is not None:
         return structures.read_molecule(compound.molecule)
     if compound.mol_block is not None:
@@ -68,7 +94,16 @@ def read(compound: Compound) -> Structure | Result:
 
 def read_given(given: Compound | str | Chem.Mol) -> Structure | Result:
     """The structure of what a caller may give."""
-    return read(_compound(given))
+    return read(compound_of(given))
+
+
+def compound_of(given: Compound | str | Chem.Mol) -> Compound:
+    """The compound of what a caller may give."""
+    if isinstance(given, Compound):
+        return given
+    if isinstance(given, str):
+        return Compound(name=given, smiles=given)
+    return Compound(molecule=given)
 
 
 def with_structure(result: Result, structure: Structure) -> Result:
@@ -277,12 +312,3 @@ def _lost(error: BaseException) -> Result:
     """The result of a search whose process or machine is gone."""
     detail = f"{type(error).__name__}: {error}".rstrip(": ")
     return Result(Status.CUT_OFF, reason=messages.ended_unexpectedly(detail))
-
-
-def _compound(given: Compound | str | Chem.Mol) -> Compound:
-    """A compound of what a caller may give."""
-    if isinstance(given, Compound):
-        return given
-    if isinstance(given, str):
-        return Compound(name=given, smiles=given)
-    return Compound(molecule=given)

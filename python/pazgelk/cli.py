@@ -18,6 +18,7 @@ from pathlib import Path
 from typing import NoReturn, cast
 
 from . import ask, batch, messages, report, setup, tables
+from .blends import Blend, blend_of
 from .compare import Compared, compare
 from .errors import NotStarted
 from .model import NotReady, Result, Settings, Status, Stopped
@@ -33,6 +34,7 @@ examples:
   pazgelk score list.xlsx -o scores.xlsx      the same into a new workbook
   pazgelk score old.csv --against score       beside the scores of an old list
   pazgelk score --smiles 'CC(C)CC=O'          one compound
+  pazgelk score lot.csv --blend               the compounds one by one, and all of them together
 
 exit status: 0 each row is scored, or turned back for what it is; 1 something was cut off or unreadable; 2 not started
 """
@@ -130,6 +132,7 @@ def _score_options(commands: argparse._SubParsersAction[Parser]) -> None:
 
     group = command.add_argument_group("what comes back")
     add = group.add_argument
+    add("--blend", action="store_true", help="a last row in which all compounds are scored together, and what they share")
     add("--against", metavar="COLUMN", help="compare with the numbers of this column")
     add("--sort", choices=["score"], help="the highest score first, and what has none at the end")
     add("--details", action="store_true", help="matches, states, each removal as match number(size), and the engine's row and place")
@@ -152,31 +155,54 @@ def _score_options(commands: argparse._SubParsersAction[Parser]) -> None:
 
 @dataclass
 class Job:
-    """What is to be scored and how it is shown, and what has come back so far."""
+    """What is to be scored and how it is shown, and what has come back so far.
+
+    Where a blend is asked for it is the table's last row, and `members` are the rows of its compounds.
+    """
 
     table: tables.Table
     olds: list[str]
     words: argparse.Namespace
+    members: tuple[int, ...] = ()
     results: dict[int, Result] = field(default_factory=dict)
     compared: dict[int, Compared] = field(default_factory=dict)
+    blend: Blend | None = None
 
     @property
     def against(self) -> bool:
         """Whether old numbers stand beside the scores."""
         return self.words.against is not None
 
+    def is_blend(self, place: int) -> bool:
+        """Whether this is the row in which the compounds are scored together."""
+        return self.table.rows[place].compound.blend is not None
+
     def take(self, place: int, result: Result) -> None:
-        """A row's answer."""
+        """A row's answer. That of a blend comes last."""
+        if self.is_blend(place):
+            self.blend = self._blend(result)
+            result = self.blend.result
         self.results[place] = result
         if self.against:
             self.compared[place] = compare(self.olds[place], result)
 
+    def _blend(self, result: Result) -> Blend:
+        """The blend with this result. A compound whose search the user has not waited for is cut off."""
+        compounds = [self.table.rows[place].compound for place in self.members]
+        return blend_of(result, compounds, [self.results.get(place, Result(Status.CUT_OFF)) for place in self.members])
+
     def order(self) -> list[int]:
-        """The finished rows as they are shown: as they came, or the highest score first."""
+        """The finished rows as they are shown: as they came, or the highest score first, and the blend last."""
         places = list(self.results)
         if self.words.sort:
-            places.sort(key=lambda place: _rank(self.results[place]))
+            places.sort(key=lambda place: (self.is_blend(place), *_rank(self.results[place])))
         return places
+
+    def summary(self) -> str:
+        """What became of the list."""
+        places = [place for place in self.results if not self.is_blend(place)]
+        compared = [self.compared[place] for place in places if place in self.compared]
+        return report.summary([self.results[place] for place in places], compared, self.words.against, self.blend)
 
 
 def _rank(result: Result) -> tuple[int, int]:
@@ -227,7 +253,13 @@ class WriterSink:
     def show(self, place: int) -> None:
         """Writes a finished row."""
         job = self._job
-        found = answers.cells(job.results[place], job.compared.get(place), details=job.words.details)
+        found = answers.cells(
+            job.results[place],
+            job.compared.get(place),
+            details=job.words.details,
+            blended=job.words.blend,
+            blend=job.blend if job.is_blend(place) else None,
+        )
         self._writer.row(job.table.rows[place], found)
 
     def close(self) -> None:
@@ -239,8 +271,8 @@ def _say(text: str) -> None:
     print(text, file=sys.stderr, flush=True)
 
 
-def _read(words: argparse.Namespace) -> tuple[tables.Table, list[str]]:
-    """The list to score, and the old number of each row."""
+def _read(words: argparse.Namespace) -> Job:
+    """The list to score, with the old number of each row."""
     if words.smiles is not None:
         found = [tables.from_smiles(words.smiles)]
     else:
@@ -251,7 +283,12 @@ def _read(words: argparse.Namespace) -> tuple[tables.Table, list[str]]:
         for table in found:
             place = tables.wanted_column(table.source, table.columns, words.against)
             olds += [tables.text_of(row.cells[place]) for row in table.rows]
-    return tables.joined(found), olds
+    table = tables.joined(found)
+    if not words.blend:
+        return Job(table, olds, words)
+    sources = [messages.standard_input() if source == tables.INPUT else Path(source).name for source in words.files]
+    table, members = tables.blended(table, messages.blend_name(sources))
+    return Job(table, [*olds, ""], words, members)
 
 
 def _refuse(words: argparse.Namespace) -> None:
@@ -298,8 +335,8 @@ def _sink(job: Job, progress: report.Progress, stack: ExitStack) -> TerminalSink
     target = job.words.output
     if target is None and sys.stdout.isatty():
         return TerminalSink(job, progress)
-    appended = answers.columns(details=job.words.details, against=job.against, taken=job.table.columns)
-    renamed = [name for name in appended if name not in (*answers.COLUMNS, *answers.DETAILS, answers.COMPARE)]
+    appended = answers.columns(details=job.words.details, against=job.against, taken=job.table.columns, blended=job.words.blend)
+    renamed = [name for name in appended if name not in answers.ALL]
     if renamed:
         _say(messages.warned(messages.repeated_columns(columns=renamed)))
     if target in (None, tables.INPUT):
@@ -376,18 +413,18 @@ def score(words: argparse.Namespace) -> int:
     except ValueError as error:
         raise NotStarted(str(error)) from None
     setup.packages(_modules(words))
-    table, olds = _read(words)
-    for warning in table.warnings:
+    job = _read(words)
+    rows = len(job.table.rows)
+    for warning in job.table.warnings:
         _say(messages.warned(warning))
-    if table.rows:
+    if rows:
         setup.engine()
-    job = Job(table, olds, words)
-    whole = _run(job, settings, report.Progress(len(table.rows), sys.stderr, shown=not words.quiet))
+    whole = _run(job, settings, report.Progress(rows, sys.stderr, shown=not words.quiet))
     if not words.quiet:
-        _say(report.summary(list(job.results.values()), list(job.compared.values()), words.against))
+        _say(job.summary())
     if not whole:
         path = words.output if words.output != tables.INPUT else None
-        _say(messages.told(messages.stopped(done=len(job.results), total=len(table.rows), path=path)))
+        _say(messages.told(messages.stopped(done=len(job.results), total=rows, path=path)))
         return STOPPED
     return FAULTS if any(result.status in (Status.CUT_OFF, Status.UNREADABLE) for result in job.results.values()) else DONE
 

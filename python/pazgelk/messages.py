@@ -134,6 +134,16 @@ def symbol_without_brackets(symbol: str) -> str:
     return f"{symbol} is an element's symbol, which stands in brackets in a SMILES: write [{symbol}]"
 
 
+def reaction() -> str:
+    """A reaction stands where a SMILES should."""
+    return "this is a reaction, with > between its sides: give each compound a row of its own"
+
+
+def lone_dot(place: int) -> str:
+    """A dot of a SMILES, which stands between two parts, with nothing on one side."""
+    return f"character {place} is a dot with no part beside it: take it out, or write the part"
+
+
 def inchi_not_read() -> str:
     """An InChI stands where a SMILES should."""
     return "this is an InChI: give the compound's SMILES"
@@ -204,21 +214,28 @@ def hydrogen_only() -> str:
     return "there is nothing but hydrogen, which is left out"
 
 
-def several_parts(count: int) -> str:
-    """The structure is not connected."""
-    return f"{count} parts that no bond joins (a salt or a mixture): give each part a row of its own"
+def part(number: int, count: int, where: str) -> str:
+    """A part of a structure that no bond joins to the others, by its first atom."""
+    return f"part {number} of {count} (from {where})"
 
 
-def ring(count: int) -> str:
-    """The structure has rings."""
-    return f"it has {'a ring' if count == 1 else f'{count} rings'}: only ring-free molecules are scored"
+def ring(count: int, parts: Sequence[str]) -> str:
+    """The structure has rings; of several parts those that have them."""
+    what = "a ring" if count == 1 else f"{count} rings"
+    return f"{' and '.join(parts) or 'it'} {'have' if len(parts) > 1 else 'has'} {what}: only ring-free molecules are scored"
 
 
 def too_large(bonds: int, most: int, parts: int, rings: int) -> str:
     """There are more bonds than can be scored."""
-    also = [f"in {parts} parts"] if parts > 1 else []
-    also += ["with a ring" if rings == 1 else f"with {rings} rings"] if rings else []
-    return f"{bonds:,} bonds{' ' + ' '.join(also) if also else ''}: at most {most} are scored"
+    also = [f"in {parts:,} parts"] if parts > 1 else []
+    also += ["with a ring" if rings == 1 else f"with {rings:,} rings"] if rings else []
+    told = f"{' '.join([f'{bonds:,} bonds', *also])}: at most {most} are scored"
+    return f"{told} together; give parts rows of their own" if parts > 1 else told
+
+
+def too_many_parts(count: int, most: int) -> str:
+    """There are more parts than can be scored together."""
+    return f"{count:,} parts that no bond joins: at most {most} are scored together; leave repeats out, or give parts rows of their own"
 
 
 def refused_by_engine(row: int, place: int) -> str:
@@ -244,9 +261,16 @@ def note_of_hydrogen_isotopes(names: Sequence[str]) -> str:
     return f"{' and '.join(names)} left out as hydrogen, which marks nothing"
 
 
-def note_of_lone_atom() -> str:
+def note_of_parts(bonds: Sequence[int]) -> str:
+    """Several parts are scored as a mixture; how many bonds each has."""
+    *others, last = [str(count) for count in bonds]
+    return f"{len(bonds)} parts scored together as one mixture, with {', '.join(others)} and {last} bonds"
+
+
+def note_of_no_bond(atoms: int) -> str:
     """Why the score is 0 where there is no bond."""
-    return "one atom besides hydrogen: there is nothing to join"
+    what = "one atom besides hydrogen" if atoms == 1 else f"{atoms} atoms besides hydrogen and no bond"
+    return f"{what}: there is nothing to join"
 
 
 def note_of_isotopes(marks: Sequence[str]) -> str:
@@ -262,6 +286,79 @@ def note_of_radicals(atoms: Sequence[str]) -> str:
 def note_of_loose_hydrogen() -> str:
     """Hydrogen stood beside the molecule."""
     return "hydrogen beside the molecule left out"
+
+
+# Blends
+
+
+def blend_name(sources: Sequence[str]) -> str:
+    """The name of the row in which the compounds of these lists are scored together."""
+    return f"blend of {shortened([one_line(source) for source in sources])}" if sources else "blend"
+
+
+def compound(number: int, name: str, status: str) -> str:
+    """A compound of a blend, counted from 1, and what became of it."""
+    shown = one_line(name)
+    return f"{(shown if len(shown) <= 40 else shown[:38] + '..') or f'compound {number}'} ({status})"
+
+
+def empty_blend() -> str:
+    """There are no compounds."""
+    return "there is no compound in the blend"
+
+
+def too_many_compounds(count: int, most: int) -> str:
+    """A blend of more compounds than can be scored together."""
+    return f"{count:,} compounds: at most {most} are scored together; take some out (of equal ones, which are made once, leave one)"
+
+
+def blend_not_whole(compounds: Sequence[str]) -> str:
+    """Compounds of a blend are not scored themselves, so that it has no score."""
+    which = "this compound" if len(compounds) == 1 else "these compounds"
+    return f"the blend is not whole without {shortened(compounds)}: mend {which} or take {'it' if len(compounds) == 1 else 'them'} out"
+
+
+def blend_too_large(bonds: int, most: int) -> str:
+    """The compounds of a blend have more bonds than can be scored together."""
+    return f"{bonds:,} bonds in all: at most {most} are scored together; take compounds out"
+
+
+def blend_of_too_many_parts(parts: int, most: int) -> str:
+    """The compounds of a blend have more parts than can be scored together."""
+    return f"{parts:,} parts in all: at most {most} are scored together; take compounds out"
+
+
+def note_of_blend(compounds: int) -> str:
+    """Compounds are scored together."""
+    return f"{counted(count=compounds, word='compound', plural='compounds')} scored together"
+
+
+def note_of_sum(own: int, *, at_most: bool) -> str:
+    """What the compounds score on their own."""
+    return f"their own scores add up to {'at most ' if at_most else ''}{own:,}"
+
+
+def note_of_shared(shared: int) -> str:
+    """How many joins are spared."""
+    return f"{counted(count=shared, word='join is', plural='joins are')} shared" if shared else "nothing is shared"
+
+
+def note_of_no_sum(compounds: Sequence[str]) -> str:
+    """Own scores are missing, without which it is not known what is shared."""
+    return f"what is shared is not known without the score of {shortened(compounds)}"
+
+
+def not_known() -> str:
+    """In a cell that would hold a number."""
+    return "not known"
+
+
+def note_of_no_share() -> str:
+    """What is shared cannot be told where scores are at most."""
+    return "what is shared is not known with the memo on"
+
+
+# Notes of searches
 
 
 def note_of_memo() -> str:
@@ -664,6 +761,17 @@ def summary(*, total: int, counts: Iterable[tuple[str, int]]) -> str:
     shown = sorted(((word, count) for word, count in counts if count or word in ("scored", "cut off")), key=lambda pair: pair[0] == "cut off")
     head = counted(count=total, word="structure", plural="structures")
     return f"{head}: {', '.join(counted(count=count, word=word, plural=plurals.get(word)) for word, count in shown)}"
+
+
+def summary_of_blend(*, score: int, own: int | None, shared: int | None) -> str:
+    """What the compounds of a list score together."""
+    apart, spared = (not_known() if number is None else f"{number:,}" for number in (own, shared))
+    return f"Blend: {score:,} together, {apart} on their own, {spared} shared"
+
+
+def summary_of_no_blend(*, status: str, reason: str) -> str:
+    """Why the compounds of a list are not scored together."""
+    return f"Blend: {status}, {reason}"
 
 
 def summary_at_most() -> str:

@@ -14,7 +14,6 @@ from .errors import NotStarted
 if TYPE_CHECKING:
     from rdkit import Chem
 
-MOST_BONDS = 64
 LEAST_MEMORY = 1024 * 1024
 
 
@@ -28,9 +27,10 @@ class Status(str, Enum):
     SCORED = "scored"
     CUT_OFF = "cut off"
     RING = "ring"
-    SEVERAL_PARTS = "several parts"
     HYDROGEN_ONLY = "hydrogen only"
     TOO_LARGE = "too large"
+    TOO_MANY_PARTS = "too many parts"
+    INCOMPLETE = "incomplete"
     NO_STRUCTURE = "no structure"
     UNREADABLE = "unreadable"
 
@@ -98,13 +98,14 @@ class Settings:
 
 @dataclass(frozen=True)
 class Compound:
-    """A compound of a list: a SMILES, a mol block, an RDKit molecule, or a problem that its reader found."""
+    """A compound of a list: a SMILES, a mol block, an RDKit molecule, a blend of others, or a problem that its reader found."""
 
     name: str = ""
     smiles: str | None = None
     mol_block: str | None = None
     problem: Result | None = None
     molecule: Chem.Mol | None = None
+    blend: tuple[Compound, ...] | None = None
 
 
 Progress = Callable[[int, Compound], None]

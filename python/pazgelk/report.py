@@ -12,10 +12,12 @@ from dataclasses import dataclass
 from typing import TextIO
 
 from . import messages
+from .blends import Blend
 from .compare import Compared
 from .model import Compound, Result, Status
 
 WIDEST_NAME = 40
+WIDEST_STATUS = max(len(status.value) for status in Status)
 LEAST_REMARK = 24
 SILENT = 2.0
 """Seconds before the first word on how far the work is."""
@@ -77,7 +79,7 @@ class Layout:
 
     def _line(self, name: str, score: str, status: str, bonds: str, details: Sequence[str], old: str, compared: str) -> str:
         """A line without its remark."""
-        cells = [left(fitted(name, self.name), self.name), right(score, 5), left(status, 13), right(bonds, 5)]
+        cells = [left(fitted(name, self.name), self.name), right(score, 5), left(status, WIDEST_STATUS), right(bonds, 5)]
         if self.details:
             cells += [right(details[0], 7), right(details[1], 8), left(fitted(details[2], 16), 16)]
         if self.against:
@@ -156,13 +158,22 @@ class Progress:
             self._drawn = False
 
 
-def summary(results: Sequence[Result], compared: Sequence[Compared], against: str | None) -> str:
-    """What became of the list, in a line, and in a second one how it compares with the old numbers."""
+def summary(results: Sequence[Result], compared: Sequence[Compared], against: str | None, blend: Blend | None = None) -> str:
+    """What became of the list, in a line; and in lines of their own its blend, and how it compares with the old numbers."""
     counts = Counter(result.status for result in results)
     text = messages.summary(total=len(results), counts=[(status.value, counts[status]) for status in Status])
-    if any(result.at_most for result in results):
+    if blend is not None:
+        text += "\n" + _summary_of(blend)
+    if any(result.at_most for result in (*results, *([] if blend is None else [blend.result]))):
         text += "\n" + messages.summary_at_most()
     if against is not None:
         old = Counter(compared)
         text += "\n" + messages.summary_compared(column=against, counts=[(word.value, old[word]) for word in Compared])
     return text
+
+
+def _summary_of(blend: Blend) -> str:
+    """What the compounds score together, or why they do not."""
+    if blend.result.score is None:
+        return messages.summary_of_no_blend(status=blend.result.status.value, reason=blend.result.reason)
+    return messages.summary_of_blend(score=blend.result.score, own=blend.sum, shared=blend.shared)

@@ -1,58 +1,82 @@
 """From a SMILES, a mol block or an RDKit molecule to the record that the engine is given, or to the reason why there is none.
 
 Hydrogens of any isotope are left out with their bonds, so deuterium marks nothing. An atom's class is its mass number, or 1 where none
-is given. Stereo, charges and map numbers are not seen. Atoms and bonds go into the record in RDKit's canonical order, so that one
-compound gives one record however it is written.
+is given. Stereo, charges and map numbers are not seen. Several parts are one record, which is scored as a mixture. Atoms and bonds of
+each part go into the record in RDKit's canonical order, so that one compound or mixture gives one record however it is written.
 """
 
 from __future__ import annotations
 
 import re
+from collections import defaultdict
 from collections.abc import Sequence
 from dataclasses import dataclass
+from functools import cached_property
 from typing import TYPE_CHECKING, Any
 
-from . import isotopes, messages, toolkit
-from .model import MOST_BONDS, Result, Status
+from . import isotopes, messages, records, toolkit
+from .model import Result, Status
+from .records import MOST_BONDS, MOST_TREES, Tree
 
 if TYPE_CHECKING:
     from rdkit import Chem
 
 HYDROGEN = 1
 HYDROGEN_ISOTOPES = {2: "deuterium", 3: "tritium"}
-# Groups of a drawing that only name or describe atoms that are all there.
-HARMLESS_GROUPS = {"DAT", "SUP"}
+# Groups of a drawing that only name or describe atoms that are all there: data, abbreviations, and mixtures with their components.
+HARMLESS_GROUPS = {"DAT", "SUP", "COM", "MIX", "FOR"}
+# Elements whose unpaired electron may be a hydrogen left out; a metal's seldom is.
+OF_HYDRIDES = frozenset({5, 6, 7, 8, 9, 14, 15, 16, 17, 32, 33, 34, 35, 50, 51, 52, 53})
 # The highest atomic number that an element has.
 MOST_ELEMENT = 118
 _NUMBERED_ATOM = re.compile(r"\[\d*#(\d+)")
 _SYMBOL = re.compile(r"[A-Z][a-z]?")
 _SMILES_FAULT = re.compile(r"SMILES Parse Error: (.*?)(?: while parsing| for input|: |$)")
+_REACTION = re.compile(r"(?<!-)>[^>]*>")
+_LONE_DOT = re.compile(r"^\.|\.(?=\.|$)")
 _VALENCE = re.compile(r"[Vv]alence for atom # \d+ \w+, (\d+),")
 
 
 @dataclass(frozen=True)
 class Structure:
-    """A molecule that is searched."""
+    """A molecule or a mixture that is searched."""
 
-    record: bytes
-    bonds: int
+    trees: tuple[Tree, ...]
     note: str = ""
     # for each bond of the record its number, from 0, in what was read
     bond_numbers: tuple[int, ...] = ()
 
+    @cached_property
+    def record(self) -> bytes:
+        """What the engine is given."""
+        return records.record_of(self.trees)
+
+    @property
+    def bonds(self) -> int:
+        """How many bonds it has."""
+        return sum(len(tree.bonds) for tree in self.trees)
+
 
 @dataclass(frozen=True)
-class _Graph:
-    """The atoms besides hydrogen, by their numbers in what was read, and the bonds between them."""
+class _Part:
+    """What bonds join: atoms besides hydrogen and the bonds between them, by their numbers in what was read."""
 
     atoms: tuple[int, ...]
     bonds: tuple[int, ...]
-    parts: int
 
     @property
     def rings(self) -> int:
-        """How many bonds could be taken away without taking a part apart."""
-        return len(self.bonds) - len(self.atoms) + self.parts
+        """How many bonds could be taken away without taking the part apart."""
+        return len(self.bonds) - len(self.atoms) + 1
+
+
+@dataclass(frozen=True)
+class _Graph:
+    """All atoms besides hydrogen and all bonds between them, and the parts that they make, by their lowest atoms."""
+
+    atoms: tuple[int, ...]
+    bonds: tuple[int, ...]
+    parts: tuple[_Part, ...]
 
 
 class _TurnedBack(Exception):
@@ -98,24 +122,24 @@ def read_mol_block(block: str) -> Structure | Result:
 
 def read_molecule(molecule: Chem.Mol) -> Structure | Result:
     """The structure of an RDKit molecule, which is left as it is, or the result of one that is turned back."""
-    note = ""
+    left_out = told = ""
     try:
         with toolkit.silent():
             copy = toolkit.chem().RWMol(molecule)
-            note = _notes_of_hydrogen(copy)
+            left_out = _notes_of_hydrogen(copy)
             _look_for_open_places(copy)
             graph = _graph(copy)
             _look_at_size(graph)
             _sanitize(copy)
             _look_at_isotopes(copy, graph)
-            note = _joined(note, _notes_of_atoms(copy, graph))
-            _look_at_shape(graph)
+            told = _notes_of_atoms(copy, graph)
+            _look_for_rings(copy, graph)
             _look_at_bonds(copy, graph)
-            record, numbers = _record(copy, graph)
+            trees, numbers = _trees(copy, graph)
     except _TurnedBack as turned_back:
         result = turned_back.result
-        return Result(result.status, bonds=result.bonds, reason=result.reason, note=note)
-    return Structure(record, len(graph.bonds), note, numbers)
+        return Result(result.status, bonds=result.bonds, reason=result.reason, note=_joined(left_out, told))
+    return Structure(trees, _joined(left_out, _notes_of_parts(graph), told), numbers)
 
 
 # Reading with RDKit
@@ -151,6 +175,11 @@ def _smiles_fault(text: str) -> str:
         return messages.inchi_not_read()
     if _is_symbol(text):
         return messages.symbol_without_brackets(text)
+    if _REACTION.search(text):
+        return messages.reaction()
+    lone = _LONE_DOT.search(text)
+    if lone:
+        return messages.lone_dot(lone.start() + 1)
     faults = [_SMILES_FAULT.search(line) for line in toolkit.words_of(lambda: _parse_smiles(text))]
     return messages.smiles_not_read(next((fault[1] for fault in faults if fault), ""))
 
@@ -183,11 +212,12 @@ def _look_at_size(graph: _Graph) -> None:
     """There is something besides hydrogen, and not too much of it."""
     if not graph.atoms:
         raise _TurnedBack(Status.HYDROGEN_ONLY, messages.hydrogen_only(), 0)
-    count = len(graph.bonds)
+    count, parts = len(graph.bonds), len(graph.parts)
     if count > MOST_BONDS:
-        raise _TurnedBack(Status.TOO_LARGE, messages.too_large(count, MOST_BONDS, graph.parts, graph.rings), count)
-    if len(graph.atoms) > MOST_BONDS + 1:
-        raise _TurnedBack(Status.SEVERAL_PARTS, messages.several_parts(graph.parts), count)
+        rings = sum(part.rings for part in graph.parts)
+        raise _TurnedBack(Status.TOO_LARGE, messages.too_large(count, MOST_BONDS, parts, rings), count)
+    if parts > MOST_TREES:
+        raise _TurnedBack(Status.TOO_MANY_PARTS, messages.too_many_parts(parts, MOST_TREES), count)
 
 
 def _sanitize(molecule: Chem.RWMol) -> None:
@@ -224,13 +254,17 @@ def _chemical_fault(molecule: Chem.Mol, error: Any) -> str:
     return messages.not_chemistry(f"{where}: {cause.Message()}")
 
 
-def _look_at_shape(graph: _Graph) -> None:
-    """It is one ring-free molecule."""
-    count = len(graph.bonds)
-    if graph.parts > 1:
-        raise _TurnedBack(Status.SEVERAL_PARTS, messages.several_parts(graph.parts), count)
-    if graph.rings:
-        raise _TurnedBack(Status.RING, messages.ring(graph.rings), count)
+def _look_for_rings(molecule: Chem.Mol, graph: _Graph) -> None:
+    """No part has a ring."""
+    rings = sum(part.rings for part in graph.parts)
+    if not rings:
+        return
+    ringed = [
+        messages.part(number, len(graph.parts), _atom(molecule.GetAtomWithIdx(part.atoms[0])))
+        for number, part in enumerate(graph.parts, 1)
+        if part.rings
+    ]
+    raise _TurnedBack(Status.RING, messages.ring(rings, ringed if len(graph.parts) > 1 else []), len(graph.bonds))
 
 
 def _look_at_bonds(molecule: Chem.Mol, graph: _Graph) -> None:
@@ -278,13 +312,20 @@ def _notes_of_hydrogen(molecule: Chem.Mol) -> str:
     )
 
 
+def _notes_of_parts(graph: _Graph) -> str:
+    """Several parts, which are a mixture; and that there is no bond, which explains a score of 0."""
+    return _joined(
+        messages.note_of_parts([len(part.bonds) for part in graph.parts]) if len(graph.parts) > 1 else "",
+        messages.note_of_no_bond(len(graph.atoms)) if not graph.bonds else "",
+    )
+
+
 def _notes_of_atoms(molecule: Chem.Mol, graph: _Graph) -> str:
-    """A lone atom, which explains its score; isotopes, which are told apart; and radicals, which are often a slip."""
+    """Isotopes, which are told apart; and radicals, which are often a slip."""
     atoms = [molecule.GetAtomWithIdx(index) for index in graph.atoms]
     marks = [f"{atom.GetIsotope()}{atom.GetSymbol()} at atom {atom.GetIdx() + 1}" for atom in atoms if atom.GetIsotope()]
-    radicals = [_atom(atom) for atom in atoms if atom.GetNumRadicalElectrons()]
+    radicals = [_atom(atom) for atom in atoms if atom.GetNumRadicalElectrons() and atom.GetAtomicNum() in OF_HYDRIDES]
     return _joined(
-        messages.note_of_lone_atom() if len(atoms) == 1 else "",
         messages.note_of_isotopes(marks) if marks else "",
         messages.note_of_radicals(radicals) if radicals else "",
     )
@@ -297,13 +338,13 @@ def _graph(molecule: Chem.Mol) -> _Graph:
     """The molecule without its hydrogens."""
     atoms = tuple(atom.GetIdx() for atom in molecule.GetAtoms() if atom.GetAtomicNum() != HYDROGEN)
     kept = set(atoms)
-    ends = [(bond.GetIdx(), bond.GetBeginAtomIdx(), bond.GetEndAtomIdx()) for bond in molecule.GetBonds()]
-    bonds = [bond for bond in ends if bond[1] in kept and bond[2] in kept]
-    return _Graph(atoms, tuple(bond[0] for bond in bonds), _parts(atoms, [bond[1:] for bond in bonds]))
+    ends = {bond.GetIdx(): (bond.GetBeginAtomIdx(), bond.GetEndAtomIdx()) for bond in molecule.GetBonds()}
+    bonds = {number: pair for number, pair in ends.items() if kept.issuperset(pair)}
+    return _Graph(atoms, tuple(bonds), _parts(atoms, bonds))
 
 
-def _parts(atoms: Sequence[int], bonds: Sequence[tuple[int, int]]) -> int:
-    """Into how many connected parts the bonds join the atoms."""
+def _parts(atoms: Sequence[int], bonds: dict[int, tuple[int, int]]) -> tuple[_Part, ...]:
+    """The parts into which the bonds join the atoms."""
     parent = {atom: atom for atom in atoms}
 
     def root(atom: int) -> int:
@@ -312,44 +353,52 @@ def _parts(atoms: Sequence[int], bonds: Sequence[tuple[int, int]]) -> int:
             atom = parent[atom]
         return atom
 
-    for first, second in bonds:
+    for first, second in bonds.values():
         parent[root(first)] = root(second)
-    return sum(parent[atom] == atom for atom in atoms)
+    of_root: defaultdict[int, tuple[list[int], list[int]]] = defaultdict(lambda: ([], []))
+    for atom in atoms:
+        of_root[root(atom)][0].append(atom)
+    for number, (first, _) in bonds.items():
+        of_root[root(first)][1].append(number)
+    return tuple(_Part(tuple(one), tuple(other)) for one, other in of_root.values())
 
 
-def _record(molecule: Chem.Mol, graph: _Graph) -> tuple[bytes, tuple[int, ...]]:
-    """The record's bytes, and for each of its bonds the number in the molecule."""
+def _trees(molecule: Chem.Mol, graph: _Graph) -> tuple[tuple[Tree, ...], tuple[int, ...]]:
+    """The parts in the order in which a record has them, and for each of its bonds the number in the molecule."""
+    read = sorted((_tree(molecule, part) for part in graph.parts), key=lambda one: records.rank(one[0]))
+    return tuple(tree for tree, _ in read), tuple(number for _, numbers in read for number in numbers)
+
+
+def _tree(molecule: Chem.Mol, part: _Part) -> tuple[Tree, tuple[int, ...]]:
+    """A part in its canonical order, and for each of its bonds the number in the molecule."""
     codes = _bond_codes()
-    place = _canonical_places(molecule, graph)
-    atoms = [molecule.GetAtomWithIdx(index) for index in sorted(graph.atoms, key=place.__getitem__)]
+    place = _canonical_places(molecule, part)
+    atoms = [molecule.GetAtomWithIdx(index) for index in sorted(part.atoms, key=place.__getitem__)]
     bonds = []
-    for number in graph.bonds:
+    for number in part.bonds:
         bond = molecule.GetBondWithIdx(number)
         low, high = sorted((place[bond.GetBeginAtomIdx()], place[bond.GetEndAtomIdx()]))
         bonds.append((low, high, codes[bond.GetBondType()], number))
     bonds.sort()
-    record = bytes(
-        [len(atoms), len(bonds)]
-        + [atom.GetAtomicNum() for atom in atoms]
-        + [isotopes.class_of(atom) for atom in atoms]
-        + [end for low, high, _, _ in bonds for end in (low, high)]
-        + [code for _, _, code, _ in bonds]
+    tree = Tree(
+        tuple((atom.GetAtomicNum(), isotopes.class_of(atom)) for atom in atoms),
+        tuple((low, high, code) for low, high, code, _ in bonds),
     )
-    return record, tuple(number for *_, number in bonds)
+    return tree, tuple(number for *_, number in bonds)
 
 
-def _canonical_places(molecule: Chem.Mol, graph: _Graph) -> dict[int, int]:
+def _canonical_places(molecule: Chem.Mol, part: _Part) -> dict[int, int]:
     """Each atom's place in RDKit's canonical order of a molecule that has elements, mass numbers and bonds alone."""
     chem = toolkit.chem()
     bare, index = chem.RWMol(), {}
-    for number in graph.atoms:
+    for number in part.atoms:
         atom = chem.Atom(molecule.GetAtomWithIdx(number).GetAtomicNum())
         atom.SetIsotope(molecule.GetAtomWithIdx(number).GetIsotope())
         atom.SetNoImplicit(True)
         index[number] = bare.AddAtom(atom)
-    for number in graph.bonds:
+    for number in part.bonds:
         bond = molecule.GetBondWithIdx(number)
         bare.AddBond(index[bond.GetBeginAtomIdx()], index[bond.GetEndAtomIdx()], bond.GetBondType())
     bare.UpdatePropertyCache(False)
     ranks = chem.CanonicalRankAtoms(bare, includeChirality=False, includeIsotopes=True)
-    return {number: ranks[index[number]] for number in graph.atoms}
+    return {number: ranks[index[number]] for number in part.atoms}

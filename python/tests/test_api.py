@@ -18,8 +18,9 @@ PYTHON = Path(__file__).resolve().parents[1]
 
 
 def test_examples_of_the_docstrings() -> None:
-    tried = doctest.testmod(pazgelk)
-    assert tried.attempted > 5 and tried.failed == 0
+    for module, least in ((pazgelk, 5), (pazgelk.batch, 2)):
+        tried = doctest.testmod(module)
+        assert tried.attempted >= least and tried.failed == 0
 
 
 def test_score() -> None:
@@ -36,6 +37,37 @@ def test_score_of_a_labelled_standard() -> None:
     assert [pazgelk.score(smiles).score for smiles in (natural, half, whole)] == [3, 4, 3]
     assert "13C at atom 1, 13C at atom 2" in pazgelk.score(half).note
     assert pazgelk.score("[2H]C([2H])([2H])C(=O)C(C)=O").score == 3
+
+
+def test_score_of_a_mixture() -> None:
+    """What is made for one part may be used for another; equal parts are made once, and lone atoms need no join."""
+    scores = {
+        "CCCCC.CCCC": 3,
+        "CCCC.CCCCC": 3,
+        "CCCCC.CCCCC": 2,
+        "CCCCC.NCCN": 4,
+        "CC(C)CC=O.CCC(C)C=O": 4,
+        "CC(=O)[O-].[Na+]": 2,
+        "CCO.O": 1,
+        "CC.CC": 0,
+        "[Na+].[Cl-]": 0,
+        "CCO.[H][H]": 1,
+    }
+    for smiles, score in scores.items():
+        result = pazgelk.score(smiles)
+        assert (result.status, result.score, result.reason) == (Status.SCORED, score, ""), smiles
+        assert result == pazgelk.score(Chem.MolFromSmiles(smiles))
+    assert pazgelk.score("CCO.O").note == "2 parts scored together as one mixture, with 2 and 0 bonds"
+    nothing = pazgelk.score("[Na+].[Cl-]")
+    assert (nothing.bonds, nothing.matches, nothing.states, nothing.removals) == (0, 0, 0, ())
+    assert nothing.note.endswith("2 atoms besides hydrogen and no bond: there is nothing to join")
+
+
+def test_trail_of_a_mixture() -> None:
+    """Index and removals make up the bonds, less one for each part that has any."""
+    result = pazgelk.score("CCCCC.CCCC.CC.O")
+    assert result.score is not None and result.removals
+    assert 8 - 3 == result.score + sum(removal.size - 1 for removal in result.removals)
 
 
 def test_nothing_to_join_scores_0() -> None:
@@ -65,6 +97,10 @@ def test_check() -> None:
     assert len(good.record) == 2 + 2 * 3 + 3 * 2
     assert not ring.accepted and ring.status is Status.RING and ring.reason
     argon = pazgelk.check("[Ar]")
+    salt = pazgelk.check("CC(=O)[O-].[Na+]")
+    assert salt.accepted and salt.bonds == 3 and salt.record[:2] == b"\x05\x03" and "2 parts" in salt.note
+    many = pazgelk.check("C" + ".C" * 8)
+    assert not many.accepted and many.status is Status.TOO_MANY_PARTS and many.record == b""
     assert argon.accepted and argon.bonds == 0 and argon.record == bytes.fromhex("01001201") and "nothing to join" in argon.note
 
 
@@ -84,6 +120,17 @@ def test_label() -> None:
             pazgelk.label("[Ar]", chosen)
     with pytest.raises(ValueError, match="ring"):
         pazgelk.label("C1CC1")
+
+
+def test_labels_of_a_mixture() -> None:
+    """Any connected set of its bonds has one, in whichever part; two parts together have none."""
+    assert pazgelk.label("CC(=O)[O-].[Na+]") == pazgelk.label("CC(=O)O")
+    assert pazgelk.label("O.CS.CCO", [1, 2]) == pazgelk.label("CCO") and pazgelk.label("O.CS.CCO", [0]) == pazgelk.label("CS")
+    for smiles, bonds in (("CCO.CC", None), ("CCO.CC", [1, 2])):
+        with pytest.raises(ValueError, match="the bonds are no connected set"):
+            pazgelk.label(smiles, bonds)
+    with pytest.raises(ValueError, match="no bond to label"):
+        pazgelk.label("[Na+].[Cl-]")
 
 
 def test_labels_of_bonds_as_rdkit_numbers_them() -> None:

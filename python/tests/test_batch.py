@@ -34,11 +34,13 @@ MIXED_KINDS = [1, "no structure", 2, "ring", 1, "unreadable", 7, 0, 2]
 def test_roast() -> None:
     results = list(score_many(Compound(name, smiles) for name, smiles in roast()))
     counts = Counter(result.status.value for result in results)
-    assert counts == {"scored": 72, "ring": 21, "several parts": 3, "too large": 2}
+    assert counts == {"scored": 75, "ring": 21, "too large": 2}
     named = {name: result for (name, _), result in zip(roast(), results)}
     assert named["3-methylbutanal"].score == 3
     assert named["2,3-butanedione (diacetyl)"].score == named["2,3-butanedione-13C4"].score == 3
     assert named["2,3-butanedione-1,2-13C2"].score == 4
+    assert named["sodium acetate"].score == named["acetic acid"].score == 2
+    assert named["2- and 3-methylbutanal, 1:1"].score == 4
     assert named["tristearin"].bonds == 62
     assert named["geraniol"].score == named["nerol"].score
     assert all((result.score is None) == (result.status is not Status.SCORED) for result in results)
@@ -83,6 +85,13 @@ def test_doubles_are_searched_once() -> None:
     results = list(score_many(writings, executor=executor))
     assert len([words for words in executor.calls if words]) == 1
     assert {result.score for result in results} == {4} and [bool(result.note) for result in results] == [False] * 4 + [True]
+
+
+def test_mixtures_are_searched_once() -> None:
+    executor = Counting()
+    results = list(score_many(["CCO.CC(=O)[O-].[Na+]", "[Na+].[O-]C(C)=O.OCC", "CC([O-])=O.[Na+].[CH3]CO"], executor=executor))
+    assert len([words for words in executor.calls if words]) == 1
+    assert {result.score for result in results} == {2} and len({result.note for result in results}) == 3
 
 
 def test_list_that_is_longer_than_may_wait(monkeypatch: pytest.MonkeyPatch) -> None:

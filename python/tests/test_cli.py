@@ -82,11 +82,12 @@ def test_roast(capfd: Captured) -> None:
     status, out, error = run(capfd, "score", str(ROAST))
     rows = table(out)
     assert status == 0 and len(rows) == 98
-    assert Counter(row["pz_status"] for row in rows) == {"scored": 72, "ring": 21, "several parts": 3, "too large": 2}
-    assert error == "98 structures: 72 scored, 21 rings, 3 several parts, 2 too large, 0 cut off\n"
+    assert Counter(row["pz_status"] for row in rows) == {"scored": 75, "ring": 21, "too large": 2}
+    assert error == "98 structures: 75 scored, 21 rings, 2 too large, 0 cut off\n"
     scores = {row["name"]: row["pz_score"] for row in rows}
     assert scores["methanethiol"] == scores["nitrogen"] == "0"
     assert scores["dimethyl sulfide"] == scores["dimethyl sulfide-d6"] == "1"
+    assert scores["sodium acetate"] == scores["acetic acid"] == "2"
     assert scores["geraniol"] == scores["nerol"] and scores["L-leucine"] == scores["L-leucine, zwitterion"]
     zeros = ["hydrogen sulfide", "methanethiol", "nitrogen", "water", "heavy water", "argon"]
     assert [name for name, score in scores.items() if score == "0"] == zeros
@@ -99,14 +100,14 @@ def test_printed_sample(capfd: Captured) -> None:
     assert run(capfd, "score", str(ROAST), "--quiet")[1] == (TOP / "samples" / "printed" / "roast.csv").read_text()
 
 
-def test_table_of_the_readme() -> None:
-    """Each line of README's sample table stands on the terminal, in that order; .. stands for lines left out."""
-    readme = (TOP / "README.md").read_text()
-    found = re.search(r"\n((?:    .*\n)*    name +score .*\n(?:    .*\n)*)", readme)
-    assert found, "README has no sample table"
-    status, shown = on_terminal("score", str(ROAST))
+@pytest.mark.parametrize(("number", "words"), [(0, ["roast.csv"]), (1, ["butter.csv", "--blend"])])
+def test_tables_of_the_readme(number: int, words: list[str]) -> None:
+    """Each line of README's sample tables stands on the terminal, in that order; .. stands for lines left out."""
+    found = re.findall(r"\n(    name +score .*\n(?:    .*\n)*)", (TOP / "README.md").read_text())
+    assert len(found) == 2, "README has not its sample tables"
+    status, shown = on_terminal("score", str(ROAST.parent / words[0]), *words[1:])
     lines = iter(re.sub(r"\033\[[0-9;]*[mK]", "", shown).split("\n"))
-    for line in found[1].rstrip("\n").split("\n"):
+    for line in found[number].rstrip("\n").split("\n"):
         assert line == "    .." or line[4:] in lines, f"not printed, or not there: {line}"
     assert status == 0
 
@@ -136,7 +137,7 @@ def test_every_format_gives_the_same_scores(tmp_path: Path, capfd: Captured) -> 
     rows = table((tmp_path / "all.csv").read_text().replace(";", ","))
     assert (status, out, len(rows)) == (0, "", 26)
     for place in range(0, 25, 5):
-        assert [row["pz_score"] for row in rows[place : place + 5]] == ["1", "8", "ring", "several parts", "0"]
+        assert [row["pz_score"] for row in rows[place : place + 5]] == ["1", "8", "ring", "2", "0"]
     assert rows[25]["pz_score"] == "1" and [row["pz_file"] for row in rows[::5]] == ["a.csv", "a.tsv", "a.smi", "a.sdf", "a.xlsx", "a.mol"]
 
 
@@ -234,6 +235,185 @@ def test_lone_atom_in_an_sdf(tmp_path: Path, capfd: Captured) -> None:
     assert text.count(f"> <pz_score>\n0\n\n> <pz_status>\nscored\n\n> <pz_bonds>\n0\n\n> <pz_note>\n{LONE}\n\n$$$$\n") == 2
 
 
+# Blends
+
+
+LOT = """\
+name,cas,smiles
+diacetyl,431-03-8,CC(=O)C(C)=O
+"2,3-pentanedione",600-14-6,CCC(=O)C(C)=O
+acetoin,513-86-0,CC(O)C(C)=O
+"""
+SHARED = "3 compounds scored together; their own scores add up to 11; 5 joins are shared"
+TOGETHER = "Blend: 6 together, 11 on their own, 5 shared\n"
+
+
+def test_blend(tmp_path: Path, capfd: Captured) -> None:
+    """Every compound has its row as without it; the blend stands last, with its score, the sum of theirs and what is shared."""
+    (tmp_path / "lot.csv").write_text(LOT)
+    plain = run(capfd, "score", "lot.csv", "--details")[1].splitlines()
+    status, out, error = run(capfd, "score", "lot.csv", "--blend", "--details")
+    assert status == 0 and error == "3 structures: 3 scored, 0 cut off\n" + TOGETHER
+    assert [line.removesuffix(",,") for line in out.splitlines()[1:4]] == plain[1:]
+    assert out.splitlines()[0] == plain[0] + ",pz_sum,pz_shared"
+    *_, blend = table(out)
+    assert list(blend.values())[:5] == ["blend of lot.csv", "", "", "6", "scored"]
+    assert (blend["pz_bonds"], blend["pz_note"], blend["pz_sum"], blend["pz_shared"]) == ("16", SHARED, "11", "5")
+    sizes = [int(removal.partition("(")[2][:-1]) for removal in blend["pz_removals"].split()]
+    assert 16 - 3 == 6 + sum(size - 1 for size in sizes)
+
+
+def test_blend_stays_last(tmp_path: Path, capfd: Captured) -> None:
+    """Where rows are sorted and compared too. There is no old number for it, and no old 0."""
+    (tmp_path / "lot.csv").write_text("name,smiles,old\nlow,CCCC,0\nhigh,CCCCC,2\nring,C1CC1,\n")
+    status, out, error = run(capfd, "score", "lot.csv", "--blend", "--sort", "score", "--against", "old")
+    assert [row["name"] for row in table(out)] == ["low", "high", "ring", "blend of lot.csv"]
+    blend = table(out)[-1]
+    assert status == 0 and (blend["pz_score"], blend["pz_compare"]) == ("incomplete", "nothing to compare")
+    told = "the blend is not whole without ring (ring): mend this compound or take it out"
+    assert blend["pz_reason"] == told
+    assert error.splitlines() == [
+        "3 structures: 2 scored, 1 ring, 0 cut off",
+        f"Blend: incomplete, {told}",
+        "Against old: 1 same, 1 old 0 was no score, 0 differs, 1 nothing to compare, 0 not scored now",
+    ]
+    (tmp_path / "lot.csv").write_text("name,smiles\na,CCO\nb,CCCC\n")
+    rows = table(run(capfd, "score", "lot.csv", "--blend", "--sort", "score")[1])
+    assert [(row["pz_score"], row["pz_sum"], row["pz_shared"]) for row in rows] == [("2", "", ""), ("1", "", ""), ("3", "3", "0")]
+
+
+@pytest.mark.parametrize(
+    ("rows", "score", "reason", "status"),
+    [
+        ("", "no structure", "there is no compound in the blend", 0),
+        ("a,CCO\n", "1", "", 0),
+        ("a,CCO\nb,C1CC1\n", "incomplete", "without b (ring): mend", 0),
+        ("a,CCO\nb,CC(\n", "incomplete", "without b (unreadable): mend", 1),
+        ("a,CCO\nb,\n", "incomplete", "without b (no structure): mend", 0),
+        ("a,CCO\n,\nb,CC\n", "incomplete", "without row 2 (no structure): mend", 0),
+        ("a,CCO\n" * 8, "1", "", 0),
+        ("a,CCO\n" * 9, "too many parts", "9 compounds: at most 8", 0),
+        (f"a,{'C' * 34}\nb,{'C' * 33}\n", "too large", "65 bonds in all: at most 64", 0),
+    ],
+)
+def test_blends_of_ugly_lists(tmp_path: Path, capfd: Captured, rows: str, score: str, reason: str, status: int) -> None:
+    """The blend has a row, whatever the list is; it is of the whole list, or has no score."""
+    (tmp_path / "a.csv").write_text("name,smiles\n" + rows)
+    ended, out, error = run(capfd, "score", "a.csv", "--blend")
+    *others, blend = table(out)
+    assert ended == status and len(others) == rows.count("\n") and blend["name"] == "blend of a.csv"
+    assert blend["pz_score"] == score and reason in blend["pz_reason"] and bool(reason) == bool(blend["pz_reason"])
+    assert all(row["pz_sum"] == row["pz_shared"] == "" for row in others)
+    assert (blend["pz_sum"] == "not known") == (not rows or score == "incomplete")
+    assert (blend["pz_shared"] == "not known") == bool(reason) and error.splitlines()[1].startswith("Blend: ")
+
+
+def test_blend_of_two_lists(tmp_path: Path, capfd: Captured) -> None:
+    """One blend of all, where each list has its names in another column."""
+    (tmp_path / "a.csv").write_text("smiles\nCC(=O)C(C)=O\n")
+    (tmp_path / "b.csv").write_text("compound,smiles\npentanedione,CCC(=O)C(C)=O\nacetoin,CC(O)C(C)=O\n")
+    rows = table(run(capfd, "score", "a.csv", "b.csv", "--blend")[1])
+    assert [row["pz_score"] for row in rows] == ["3", "4", "4", "6"]
+    assert [row["smiles"] for row in rows] == ["CC(=O)C(C)=O", "CCC(=O)C(C)=O", "CC(O)C(C)=O", ""]
+    assert [row["compound"] for row in rows] == ["", "pentanedione", "acetoin", "blend of a.csv, b.csv"]
+    assert [row["pz_file"] for row in rows] == ["a.csv", "b.csv", "b.csv", ""]
+
+
+@pytest.mark.parametrize("kind", ["csv", "tsv", "smi", "sdf", "xlsx"])
+def test_column_with_the_name_of_a_blend(tmp_path: Path, capfd: Captured, kind: str) -> None:
+    """It is that of the names, in each kind of file, and nothing else of the row is filled but what is appended."""
+    from rdkit import Chem
+
+    (tmp_path / "a.csv").write_text("ID,smiles,name\n1,CCO,ethanol\n")
+    (tmp_path / "a.tsv").write_text("smiles\tname\nCCO\tethanol\n")
+    (tmp_path / "a.smi").write_text("CCO ethanol\n")
+    (tmp_path / "a.sdf").write_text("ethanol" + Chem.MolToMolBlock(Chem.MolFromSmiles("CCO")) + "$$$$\n")
+    book = openpyxl.Workbook()
+    for row in [("smiles", "amount", "name"), ("CCO", 1, "ethanol")]:
+        book.active.append(row)
+    book.save(tmp_path / "a.xlsx")
+    run(capfd, "score", f"a.{kind}", "--blend", "-o", "out.csv")
+    ethanol, blend = table((tmp_path / "out.csv").read_text())
+    column = "title" if kind == "sdf" else "name"
+    assert ethanol[column] == "ethanol" and blend[column] == f"blend of a.{kind}"
+    assert not any(blend[other] for other in blend if other != column and not other.startswith("pz_"))
+
+
+def test_blend_of_a_list_without_names(tmp_path: Path, capfd: Captured) -> None:
+    """Its name does not go into the column with the structures."""
+    (tmp_path / "a.csv").write_text("smiles\nCCO\nOCC\n")
+    for words in ((), ("--name", "smiles")):
+        blend = table(run(capfd, "score", "a.csv", "--blend", *words)[1])[-1]
+        assert (blend["smiles"], blend["pz_score"], blend["pz_sum"]) == ("", "1", "2")
+
+
+def test_blend_of_typed_smiles() -> None:
+    status, shown = on_terminal("score", "--smiles", "CCO", "--smiles", "OCC", "--blend")
+    lines = shown.split("\n")
+    assert status == 0 and [line.split()[:2] for line in lines[1:4]] == [["CCO", "1"], ["OCC", "1"], ["blend", "1"]]
+    assert lines[-3:] == ["2 structures: 2 scored, 0 cut off", "Blend: 1 together, 2 on their own, 1 shared", ""]
+
+
+def test_blend_again(tmp_path: Path, capfd: Captured) -> None:
+    """In a list that was scored before, the row of its blend stays, and is no compound of the new one."""
+    (tmp_path / "lot.csv").write_text(LOT)
+    run(capfd, "score", "lot.csv", "--blend", "-o", "one.csv")
+    run(capfd, "score", "one.csv", "--blend", "-o", "two.csv")
+    status, out, error = run(capfd, "score", "two.csv", "--blend")
+    rows = table(out)
+    names = ["diacetyl", "2,3-pentanedione", "acetoin", "blend of lot.csv", "blend of one.csv", "blend of two.csv"]
+    assert [row["name"] for row in rows] == names and status == 0
+    assert [row["pz_score_3"] for row in rows] == ["3", "4", "4", "no structure", "no structure", "6"]
+    assert [row["pz_shared_3"] for row in rows] == ["", "", "", "", "", "5"] and error.endswith(TOGETHER)
+    assert [row["pz_score_4"] for row in table(run(capfd, "score", "two.csv", "--blend", "-o", "3.tsv")[1])] == []
+
+
+def test_blend_in_every_format(tmp_path: Path, capfd: Captured) -> None:
+    from rdkit import Chem
+
+    (tmp_path / "lot.csv").write_text(LOT)
+    with Chem.SDWriter(str(tmp_path / "lot.sdf")) as writer:
+        for row in table(LOT):
+            molecule = Chem.MolFromSmiles(row["smiles"])
+            molecule.SetProp("_Name", row["name"])
+            writer.write(molecule)
+    assert run(capfd, "score", "lot.csv", "--blend", "-o", "out.xlsx")[0] == 0
+    *_, blend = [[cell.value for cell in row] for row in openpyxl.load_workbook(tmp_path / "out.xlsx").active.iter_rows()]
+    assert blend == ["blend of lot.csv", None, None, 6, "scored", 16, None, SHARED, 11, 5]
+    assert run(capfd, "score", "lot.csv", "--blend", "-o", "out.tsv")[0] == 0
+    assert (tmp_path / "out.tsv").read_text().splitlines()[-1] == f"blend of lot.csv\t\t\t6\tscored\t16\t\t{SHARED}\t11\t5"
+    assert run(capfd, "score", "lot.sdf", "--blend", "-o", "out.sdf") == (0, "", "3 structures: 3 scored, 0 cut off\n" + TOGETHER)
+    *others, blend = (tmp_path / "out.sdf").read_text().removesuffix("$$$$\n").split("$$$$\n")
+    assert len(others) == 3 and all("pz_shared" not in record for record in others)
+    assert blend.startswith("blend of lot.sdf\n") and "> <pz_score>\n6\n\n" in blend and "> <pz_shared>\n5\n\n" in blend
+    again = table(run(capfd, "score", "out.sdf", "--blend")[1])
+    assert [row["pz_score_2"] for row in again] == ["3", "4", "4", "no structure", "6"]
+    assert again[3]["pz_reason"].startswith("the structure has no atoms")
+
+
+def test_blend_that_is_cut_off(tmp_path: Path, capfd: Captured) -> None:
+    (tmp_path / "a.csv").write_text(f"name,smiles\na,CCO\nslow,{SLOW}\n")
+    status, out, error = run(capfd, "score", "a.csv", *ENDLESS, "--blend", "--time", "1")
+    a, slow, blend = table(out)
+    assert status == 1 and (a["pz_score"], slow["pz_score"], blend["pz_score"]) == ("1", "cut off", "cut off")
+    assert (blend["pz_sum"], blend["pz_shared"]) == ("not known", "not known") and "--time 10" in blend["pz_reason"]
+    assert "Blend: cut off, not finished after 1 s" in error
+
+
+def test_blend_stopped_by_the_user(tmp_path: Path) -> None:
+    """The blend is finished before a compound of it, whose score is then missing from the sum."""
+    (tmp_path / "a.csv").write_text(f"name,smiles\na,CCO\nslow,{SLOW}\nring,C1CC1\n")
+    words = [*COMMAND, "score", "a.csv", *ENDLESS, "--blend"]
+    with subprocess.Popen(words, stdout=subprocess.PIPE, stderr=subprocess.PIPE, env=environment(), start_new_session=True) as program:
+        time.sleep(4)
+        os.killpg(program.pid, signal.SIGINT)
+        out, error = program.communicate(timeout=20)
+    assert program.returncode == 130 and b"Traceback" not in error
+    rows = table(out.decode())
+    assert [(row["name"], row["pz_score"]) for row in rows] == [("a", "1"), ("ring", "ring"), ("blend of a.csv", "incomplete")]
+    assert rows[-1]["pz_sum"] == "not known" and b"stopped after 3 of 4" in error
+
+
 def test_workbook_to_workbook(tmp_path: Path, capfd: Captured) -> None:
     book = openpyxl.Workbook()
     for row in [["Title"], [], ["name", "SMILES", "score"], ["=A1", "CCO", 0], ["x", "=B4", 5], ["y", None, None]]:
@@ -296,7 +476,7 @@ def test_terminal(tmp_path: Path) -> None:
     assert status == 1 and lines[0].startswith("\033[1mname  score")
     assert lines[1].startswith("\033[31m乙醇      1  scored") and "old 0 was no score" in lines[1]
     assert lines[2].startswith("\033[33mring      -  ring")
-    assert any(line.startswith("Ar        0  scored             0       0  same") for line in lines)
+    assert any(line.startswith("Ar        0  scored              0       0  same") for line in lines)
     assert lines[-3] == "4 structures: 2 scored, 1 ring, 1 unreadable, 0 cut off"
     assert lines[-2] == "Against old: 1 same, 1 old 0 was no score, 0 differs, 1 nothing to compare, 1 not scored now"
 

@@ -13,6 +13,7 @@ from pazgelk.model import NotReady, Removal
 CHAIN = bytes.fromhex("050406060606060101010101000101020203030401010101")
 ARGON = bytes.fromhex("01001201")
 TRIANGLE = bytes.fromhex("04030606060601010101000101020200010101")
+CHAINS = bytes.fromhex("0907060606060606060606010101010101010101000101020203030405060607070801010101010101")
 
 
 def chain(*classes: int) -> bytes:
@@ -29,11 +30,14 @@ def score(lengths: Lengths, record: bytes = CHAIN, *, bounds: int = 3, memo: int
 
 def test_check() -> None:
     assert engine.check(CHAIN) == Reply(0, 0)
-    assert engine.check(TRIANGLE) == Reply(6, 3)
+    assert engine.check(TRIANGLE) == Reply(6, 2)
     assert engine.check(b"") == Reply(1, 0)
     assert engine.check(b"\0\0") == Reply(2, 0)
     assert engine.check(ARGON) == Reply(0, 0)
-    assert engine.check(bytes.fromhex("020012120101")) == Reply(2, 0)
+    assert engine.check(bytes.fromhex("0800" + "12" * 8 + "01" * 8)) == Reply(0, 0)
+    assert engine.check(bytes.fromhex("0900" + "12" * 9 + "01" * 9)) == Reply(2, 0)
+    assert engine.check(bytes.fromhex("0201060601010001 01".replace(" ", ""))) == Reply(0, 0)
+    assert engine.check(bytes.fromhex("0303" + "06" * 3 + "01" * 3 + "000101020200" + "010101")) == Reply(2, 0)
     assert engine.check(CHAIN[:7] + CHAIN[12:]) == Reply(1, 19)
 
 
@@ -60,7 +64,7 @@ def test_label() -> None:
     label = bytes.fromhex("00010006ffff00010006ffff0006ff")
     assert engine.label(CHAIN, 0b0011) == engine.label(CHAIN, 0b0110) == label
     assert engine.label(CHAIN, 0b0101) == Reply(13, 0)
-    assert engine.label(TRIANGLE, 1) == Reply(6, 3)
+    assert engine.label(TRIANGLE, 1) == Reply(6, 2)
     assert engine.label(MARKED, 0b0011) == bytes.fromhex("000100060dffff00010006ffff0006ff")
     assert engine.label(MARKED, 0b0110) == label
 
@@ -103,6 +107,17 @@ def test_lone_atom(memo: int, budget: int, lengths: Lengths) -> None:
     assert score(lengths, ARGON, bounds=4, memo=memo, budget=budget) == Answer(7)
     assert engine.matches(ARGON, lengths.parts, lengths.pairs) == Reply(0, 0)
     assert engine.label(ARGON, 0) == engine.label(ARGON, 1) == Reply(13, 0)
+
+
+def test_several_trees() -> None:
+    """Chains of four and of three bonds: the chain of three is shared, or two bonds twice."""
+    assert engine.check(CHAINS) == Reply(0, 0)
+    assert engine.matches(CHAINS, 12 * 64, 4 * 64) == Reply(0, 9)
+    assert score(Lengths(12 * 64, 4 * 64), CHAINS).index == 3
+    assert score(Lengths(12 * 64, 4 * 64), CHAINS, budget=0) == Answer(11)
+    assert engine.label(CHAINS, 0b0110000) == engine.label(CHAIN, 0b0011)
+    assert engine.label(CHAINS, 0b0011000) == Reply(13, 0)
+    assert score(Lengths(0, 0), bytes.fromhex("0200060b0101"), budget=0) == Answer(0)
 
 
 def test_library_that_is_missing(monkeypatch: pytest.MonkeyPatch, tmp_path: Path) -> None:

@@ -10,6 +10,7 @@ import openpyxl
 import pytest
 
 from pazgelk import tables
+from pazgelk.blends import Blend
 from pazgelk.compare import Compared
 from pazgelk.errors import NotStarted
 from pazgelk.model import Removal, Result, Status
@@ -109,6 +110,20 @@ def test_details_and_comparison() -> None:
     assert names[0] == "pz_score_2" and names[-1] == "pz_compare" and len(names) == 11
     assert answers.cells(SCORED, Compared.SAME, details=True)[5:] == (1, 2, "0(3) 14(2)", "", "", "same")
     assert answers.cells(CUT_OFF, None, details=True)[5:] == ("", "", "", 11, 100)
+
+
+def test_columns_of_a_blend() -> None:
+    """Only its own row has something in them, and never a number that is not known."""
+    names = answers.columns(details=False, against=True, taken=["pz_sum"], blended=True)
+    assert names[5:] == ("pz_sum_2", "pz_shared", "pz_compare")
+    assert answers.cells(SCORED, Compared.SAME, details=False, blended=True)[5:] == ("", "", "same")
+    blend = Blend(SCORED, (SCORED, Result(Status.SCORED, 1)))
+    assert answers.cells(SCORED, None, details=False, blended=True, blend=blend)[5:] == (4, 1)
+    unknown = Blend(CUT_OFF, (SCORED, CUT_OFF))
+    assert answers.cells(CUT_OFF, None, details=False, blended=True, blend=unknown)[5:] == ("not known", "not known")
+    zero = Result(Status.SCORED, 0, 0)
+    assert answers.cells(zero, None, details=False, blended=True, blend=Blend(zero, (zero, zero)))[5:] == (0, 0)
+    assert answers.tells_blend(" pz_shared ") and answers.tells_blend("pz_shared_12") and not answers.tells_blend("pz_shared_x")
 
 
 def test_output_takes_its_name_when_it_is_whole(tmp_path: Path) -> None:

@@ -7,6 +7,7 @@ import io
 import pytest
 
 from pazgelk import report
+from pazgelk.blends import Blend
 from pazgelk.compare import Compared
 from pazgelk.model import Compound, Removal, Result, Status
 
@@ -113,3 +114,22 @@ def test_summary() -> None:
     told = report.summary([Result(Status.SCORED, 3)], [Compared.OLD_ZERO], "old")
     assert told.endswith("Against old: 0 same, 1 old 0 was no score, 0 differs, 0 nothing to compare, 0 not scored now")
     assert "at most" in report.summary([Result(Status.SCORED, 3, at_most=True)], [], None)
+
+
+def test_summary_of_a_blend() -> None:
+    own = (Result(Status.SCORED, 3), Result(Status.SCORED, 4))
+    told = report.summary(own, [Compared.SAME] * 2, "old", Blend(Result(Status.SCORED, 5), own))
+    head, blend, compared = told.split("\n")
+    assert (head, blend) == ("2 structures: 2 scored, 0 cut off", "Blend: 5 together, 7 on their own, 2 shared")
+    assert compared.startswith("Against old: 2 same")
+    cut = (*own, Result(Status.CUT_OFF))
+    assert report.summary(cut, [], None, Blend(Result(Status.SCORED, 5), cut)).endswith("5 together, not known on their own, not known shared")
+    ring = Blend(Result(Status.INCOMPLETE, reason="not whole"), own)
+    assert report.summary(own, [], None, ring).endswith("\nBlend: incomplete, not whole")
+    most = Blend(Result(Status.SCORED, 5, at_most=True), own)
+    assert "at most" in report.summary(own, [], None, most)
+
+
+def test_every_status_has_room() -> None:
+    lines = [layout("a").row(Compound("a"), Result(status, bonds=7), "", None) for status in Status]
+    assert {line.rindex("7") for line in lines} == {lines[0].rindex("7")}

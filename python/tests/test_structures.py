@@ -2,6 +2,7 @@
 
 from __future__ import annotations
 
+import random
 import time
 
 import pytest
@@ -45,7 +46,12 @@ def turned_back(found: Structure | Result) -> Result:
         ("n/a", Status.UNREADABLE, None, "syntax error"),
         ("hexanal", Status.UNREADABLE, None, "cannot be read as a SMILES"),
         ("InChI=1S/CH4/h1H4", Status.UNREADABLE, None, "InChI"),
-        ("CCO>>CC=O", Status.UNREADABLE, None, "cannot be read as a SMILES"),
+        ("CCO>>CC=O", Status.UNREADABLE, None, "this is a reaction"),
+        ("CCO.O>[Na+]>CC=O.O", Status.UNREADABLE, None, "this is a reaction"),
+        ("CCO.", Status.UNREADABLE, None, "character 4 is a dot with no part beside it"),
+        (".CCO", Status.UNREADABLE, None, "character 1 is a dot with no part beside it"),
+        ("CCO..O", Status.UNREADABLE, None, "character 4 is a dot with no part beside it"),
+        ("CCO.O(", Status.UNREADABLE, None, "cannot be read as a SMILES"),
         ("CN(C)(C)C", Status.UNREADABLE, None, "atom 2 (N) has a valence of 4"),
         ("[CH5]C", Status.UNREADABLE, None, "atom 1 (C) has a valence of 6"),
         ("c1cccn1", Status.UNREADABLE, None, "aromatic atoms 1, 2, 3, 4, 5"),
@@ -65,6 +71,7 @@ def turned_back(found: Structure | Result) -> Result:
         ("CC[*:1]", Status.UNREADABLE, None, "atom 3 (*)"),
         ("CC~C", Status.UNREADABLE, None, "bond 2 (from atom 2 (C) to atom 3 (C))"),
         ("C[Fe]<-O", Status.UNREADABLE, 2, "is dative"),
+        ("CCO.C[Fe]<-O", Status.UNREADABLE, 4, "bond 4 (from atom 6 (O) to atom 5 (Fe)) is dative"),
         ("C$C", Status.UNREADABLE, 1, "is quadruple"),
         ("C:C", Status.UNREADABLE, 1, "is aromatic"),
         ("C[300CH3]", Status.UNREADABLE, 1, "atom 2 (C) has the mass number 300: write one from 2 to 254"),
@@ -88,18 +95,24 @@ def turned_back(found: Structure | Result) -> Result:
         ("[2H][2H]", Status.HYDROGEN_ONLY, 0, "nothing but hydrogen"),
         ("[H+]", Status.HYDROGEN_ONLY, 0, "nothing but hydrogen"),
         ("[H].[H]", Status.HYDROGEN_ONLY, 0, "nothing but hydrogen"),
-        ("O.O", Status.SEVERAL_PARTS, 0, "2 parts"),
-        ("[Na+].[Cl-]", Status.SEVERAL_PARTS, 0, "2 parts"),
-        ("CC(=O)[O-].[Na+]", Status.SEVERAL_PARTS, 3, "2 parts"),
-        ("CCC(C)C=O.CC(C)CC=O", Status.SEVERAL_PARTS, 10, "2 parts"),
-        ("C." * 5000 + "C", Status.SEVERAL_PARTS, 0, "5001 parts"),
+        ("CCO.CN(C)(C)C", Status.UNREADABLE, None, "atom 5 (N) has a valence of 4"),
+        ("CCO.*", Status.UNREADABLE, None, "atom 4 (*)"),
+        ("CCO.[300CH4]", Status.UNREADABLE, 2, "atom 4 (C) has the mass number 300"),
+        ("C" + ".C" * 8, Status.TOO_MANY_PARTS, 0, "9 parts that no bond joins: at most 8 are scored together"),
+        ("C1CC1" + ".CC" * 8, Status.TOO_MANY_PARTS, 11, "9 parts"),
+        ("C." * 5000 + "C", Status.TOO_MANY_PARTS, 0, "5,001 parts"),
+        ("CCO.C1CC1", Status.RING, 5, "part 2 of 2 (from atom 4 (C)) has a ring: only ring-free molecules are scored"),
+        ("[H+].C1CC1.O", Status.RING, 3, "part 1 of 2 (from atom 2 (C)) has a ring"),
+        ("C1CC1.O.C1CC1", Status.RING, 6, "part 1 of 3 (from atom 1 (C)) and part 3 of 3 (from atom 5 (C)) have 2 rings"),
         ("c1ccccc1", Status.RING, 6, "a ring"),
         ("C1CC1C1CC1", Status.RING, 7, "2 rings"),
         ("Cn1cnc2c1c(=O)n(C)c(=O)n2C", Status.RING, 15, "2 rings"),
         ("C" * 66, Status.TOO_LARGE, 65, "65 bonds: at most 64"),
         ("C" * 2000, Status.TOO_LARGE, 1999, "1,999 bonds"),
         ("C1CC1" * 40, Status.TOO_LARGE, 159, "with 40 rings"),
-        ("C" * 40 + "." + "C" * 40, Status.TOO_LARGE, 78, "in 2 parts"),
+        ("C" * 40 + "." + "C" * 40, Status.TOO_LARGE, 78, "78 bonds in 2 parts: at most 64 are scored together; give parts"),
+        ("C" * 34 + "." + "C" * 33, Status.TOO_LARGE, 65, "65 bonds in 2 parts"),
+        ("CC." * 70 + "C", Status.TOO_LARGE, 70, "70 bonds in 71 parts"),
     ],
 )
 def test_turned_back(smiles: str, status: Status, bonds: int | None, words: str) -> None:
@@ -131,7 +144,17 @@ def test_turned_back(smiles: str, status: Status, bonds: int | None, words: str)
         ("[13CH3][13C](=O)O", 3, "13C at atom 1, 13C at atom 2"),
         ("C[CH2]", 1, "radical at atom 2 (C)"),
         ("[O][O]", 1, "radical at atom 1 (O), atom 2 (O)"),
+        ("[O-]S([O-])(=O)=O.[Cu+2]", 4, "2 parts scored together as one mixture, with 4 and 0 bonds"),
+        ("C[Hg]", 1, ""),
         ("CC(=O)[O-].[H+]", 3, "hydrogen beside the molecule left out"),
+        ("CCO.[H][H].[2H][2H]", 2, "deuterium left out as hydrogen, which marks nothing; hydrogen beside the molecule left out"),
+        ("C1.O1.C", 1, "2 parts scored together as one mixture, with 1 and 0 bonds"),
+        ("CCO.O", 2, "2 parts scored together as one mixture, with 2 and 0 bonds"),
+        ("O.CCO", 2, "2 parts scored together as one mixture, with 0 and 2 bonds"),
+        ("CC(=O)[O-].[Na+]", 3, "2 parts scored together as one mixture, with 3 and 0 bonds"),
+        ("CC.CC.CC.CC.CC.CC.CC.CC", 8, "8 parts scored together as one mixture, with 1, 1, 1, 1, 1, 1, 1 and 1 bonds"),
+        ("C" * 33 + "." + "C" * 33 + ".O" * 6, 64, "8 parts scored together"),
+        ("C.C1CC.[13CH3]1", 3, "2 parts scored together as one mixture, with 0 and 3 bonds; isotopes are told apart: 13C at atom 5"),
     ],
 )
 def test_read(smiles: str, bonds: int, note: str) -> None:
@@ -139,6 +162,7 @@ def test_read(smiles: str, bonds: int, note: str) -> None:
     assert isinstance(found, Structure)
     assert found.bonds == bonds == found.record[1]
     assert (note in found.note) if note else found.note == ""
+    assert ("radical" in note) == ("radical" in found.note)
     assert engine.check(found.record) == (0, 0)
 
 
@@ -170,8 +194,46 @@ LONE = "one atom besides hydrogen: there is nothing to join"
 def test_lone_atoms(smiles: str, atom: str, note: str) -> None:
     """Their record is that of one atom without a bond, which the engine takes."""
     found = read_smiles(smiles)
-    assert found == Structure(bytes.fromhex("0100" + atom), 0, note)
+    assert isinstance(found, Structure)
+    assert (found.record, found.bonds, found.note) == (bytes.fromhex("0100" + atom), 0, note)
     assert engine.check(found.record) == (0, 0)
+
+
+@pytest.mark.parametrize(
+    ("smiles", "written"),
+    [
+        ("[Na+].[Cl-]", "0200 0b11 0101"),
+        ("[Cl-].[Na+]", "0200 0b11 0101"),
+        ("[Na+].[13CH4].[H+]", "0200 060b 0d01"),
+        ("O.CCO", "0402 06080608 01010101 0002 0102 0101"),
+    ],
+)
+def test_records_of_mixtures(smiles: str, written: str) -> None:
+    """Parts with more bonds come first, and atoms and bonds are numbered part by part."""
+    assert record(smiles) == bytes.fromhex(written.replace(" ", ""))
+
+
+MIXTURE = ["CC(C)CC=O", "CCC(C)C=O", "CC(C)CC=O", "CC([O-])=O", "[Na+]", "O", "[13CH3]CO", "O"]
+
+
+def test_writings_of_a_mixture() -> None:
+    """However its parts are ordered and written, a mixture is one record, which holds those of its parts."""
+    numbers = random.Random(9)
+    found = set()
+    for _ in range(60):
+        parts = numbers.sample(MIXTURE, len(MIXTURE))
+        written = [Chem.MolToSmiles(Chem.MolFromSmiles(part), doRandom=True, canonical=False) for part in parts]
+        found.add(record(".".join(written)))
+    assert len(found) == 1
+    (one,) = found
+    assert (one[0], one[1]) == (28, 20) and engine.check(one) == (0, 0)
+    assert one != record(".".join(MIXTURE[1:])) and one != record(".".join([*MIXTURE[:-1], "N"]))
+
+
+def test_most_atoms() -> None:
+    """64 bonds in 8 parts: 72 atoms."""
+    one = record(".".join(["C" * 9] * 8))
+    assert (one[0], one[1], len(one)) == (72, 64, 2 + 2 * 72 + 3 * 64) and engine.check(one) == (0, 0)
 
 
 @pytest.mark.parametrize(
@@ -248,6 +310,20 @@ def test_numbers_of_bonds() -> None:
     assert sorted(found.bond_numbers) == [bond.GetIdx() for bond in molecule.GetBonds()]
 
 
+def test_numbers_of_bonds_of_a_mixture() -> None:
+    """They lead from the record, whose parts stand in another order, to the molecule's bonds."""
+    molecule = Chem.MolFromSmiles("O.N#C.CC(=O)S")
+    found = read_molecule(molecule)
+    assert isinstance(found, Structure)
+    atoms, bonds = found.record[:2]
+    elements, ends = found.record[2 : 2 + atoms], found.record[2 + 2 * atoms : 2 + 2 * atoms + 2 * bonds]
+    written = [{elements[ends[2 * place]], elements[ends[2 * place + 1]]} for place in range(bonds)]
+    assert sorted(found.bond_numbers) == [0, 1, 2, 3] and written[-1] == {6, 7}
+    for place, number in enumerate(found.bond_numbers):
+        bond = molecule.GetBondWithIdx(number)
+        assert written[place] == {bond.GetBeginAtom().GetAtomicNum(), bond.GetEndAtom().GetAtomicNum()}
+
+
 def test_rdkit_is_silent(capfd: pytest.CaptureFixture[str]) -> None:
     for text in ("C(C", "CN(C)(C)C", "CCO"):
         read_smiles(text)
@@ -314,7 +390,8 @@ def test_mol_blocks(text: str) -> None:
         (block(*CHAIN, "M  STY  1   1 SRU", "M  SAL   1  1   2", "M  SBL   1  2   1   2", "M  SMT   1 n"), Status.UNREADABLE, "SRU"),
         (block(*CHAIN, "M  STY  1   1 MUL", "M  SAL   1  1   1", "M  SPA   1  1   1", "M  SMT   1 2"), Status.UNREADABLE, "MUL"),
         (block(["C", "C", "C"], [(1, 2, 1), (2, 3, 1), (3, 1, 1)]), Status.RING, "a ring"),
-        (block(["C", "C"], []), Status.SEVERAL_PARTS, "2 parts"),
+        (block(["C"] * 9, []), Status.TOO_MANY_PARTS, "9 parts"),
+        (block(["C", "C", "C", "O"], [(1, 2, 1), (2, 3, 1), (3, 1, 1)]), Status.RING, "part 1 of 2 (from atom 1 (C)) has a ring"),
         (block(["H", "H"], [(1, 2, 1)]), Status.HYDROGEN_ONLY, "hydrogen"),
         (block(["D"], []), Status.HYDROGEN_ONLY, "hydrogen"),
         (block(["A"], []), Status.UNREADABLE, "atom 1"),
@@ -347,6 +424,24 @@ def test_lone_atoms_of_mol_blocks(text: str, smiles: str) -> None:
     found = read_mol_block(text)
     assert isinstance(found, Structure), found
     assert found == read_smiles(smiles)
+
+
+@pytest.mark.parametrize(
+    ("text", "smiles"),
+    [
+        (block(["C", "C"], []), "C.C"),
+        (block(["C", "O", "C", "C"], [(1, 4, 1), (4, 3, 1)]), "CCC.O"),
+        (block(["C", "Na"], [], "M  CHG  2   1  -1   2   1"), "[CH3-].[Na+]"),
+        (block([*CHAIN[0], "O"], CHAIN[1], "M  STY  1   1 COM", "M  SAL   1  1   4"), "CCC.O"),
+        (block([*CHAIN[0], "O"], CHAIN[1], "M  STY  1   1 MIX", "M  SAL   1  4   1   2   3   4"), "CCC.O"),
+        (block([*CHAIN[0], "O"], CHAIN[1], "M  STY  1   1 FOR", "M  SAL   1  4   1   2   3   4"), "CCC.O"),
+        (Chem.MolToV3KMolBlock(Chem.MolFromSmiles("CCO.[Na+].[13CH3]C")), "[13CH3]C.OCC.[Na+]"),
+    ],
+)
+def test_mol_blocks_of_mixtures(text: str, smiles: str) -> None:
+    found = read_mol_block(text)
+    assert isinstance(found, Structure), found
+    assert found.record == record(smiles) and "parts scored together" in found.note
 
 
 def v3000(mass: str) -> str:

@@ -31,15 +31,15 @@ pub record Demand3 (r : Bytes) (memo budget index states : ℕ) (trail : Trail) 
   pub least_is : IsLeastScore r (pairs r) (least_score r (pairs r))
   -- document 02, 3/14. Beside each match number stands the size of that match's fragments
   pub sizes : trail.sizes ≡ map (size_of (pairs r)) trail.numbers
-  -- the root's index, bonds less one where there is a bond, is index plus the sum of (size less one) in the trail
+  -- the root's index, the sum of bonds less one over the trees that have bonds, is index plus the sum of (size less one) in the trail
   pub sum : root_index r ≡ index + sizes_less_one trail
   -- in which nothing is cut short: each size is two at least
   pub two : (k : ℕ) → Mem k trail.sizes → 2 ≤ k
-  -- the joins that the trail yields are a pathway that ends in the molecule
+  -- the joins that the trail yields are a pathway: it ends in the molecule, or makes every tree of a mixture (document 02, 9/14)
   pub joined : is_pathway r (joins r (pairs r) trail.numbers) ≡ true
   -- with exactly that many joins
   pub join_count : length (joins r (pairs r) trail.numbers) ≡ index
-  -- a pathway with exactly that many joins ends in the molecule
+  -- there is a pathway with exactly that many joins
   pub pathway : HasPathway r index
   -- with the memo off the index is the assembly index, the fewest joins of any pathway: one has exactly that many, and none has fewer
   pub fewest : memo ≡ 0 → IsFewest r index

@@ -9,6 +9,7 @@ use mathlib.Core.List.Memᴰ.{tail as m_tail}
 use mathlib.Core.List.{List, [], ◌∷◌, Memᴰ as Mem}
 use Prim.Native.Nat.{ℕ, zero, suc, ◌+◌, ◌-◌, ◌*◌, ◌/◌, ◌^◌, ◌≤◌, ◌<◌}
 use native.Mathlib.Omega.{arith}
+use native.Mathlib.Decide.{dec_lt}
 use native.Mathlib.Nat.{sub-zero}
 use native.Mathlib.Numerals.{add-one}
 use lib.Bits.{bit_and, bit_or}
@@ -42,10 +43,10 @@ use Rattle.search.specs.Setting.{Setting, has_matchable_edges}
 use Rattle.search.specs.State.{State, inside, struck, removable, mask_of, keep, child}
 use Rattle.search.specs.Search.{tried}
 use Rattle.search.specs.Inner.Claims.{Removable, Fine, held_of}
-use Rattle.search.proofs.Lists.{inside_true, refines_within}
+use Rattle.search.proofs.Lists.{inside_true, refines_within, count_two}
 use Rattle.search.proofs.Parts.{few}
 use Rattle.search.proofs.Refine.{first_struck, removable_mem, remove_fragments, keep_fragments, keep_refines, letting_go, mask_within}
-use Rattle.search.proofs.Ends.{count_two, keep_size, child_fine, child_falls, child_two}
+use Rattle.search.proofs.Ends.{keep_size, child_fine, child_falls, child_two}
 use Rattle.state.specs.declared.State as code
 use Rattle.state.specs.Inner.Views.{state_of}
 use Rattle.state.specs.Inner.Pieces.{bonds_in, bonds_left, Big, Owned, OwnedFragments, Chosen}
@@ -253,7 +254,11 @@ module _ (r : Bytes) (ok : check r ≡ accepted) (s : State) (F : Fine r (pairs 
   pieces_sum = omega (arith, F.weight, few r ok)
 
   pub largest_few : s.largest ≤ 64
-  largest_few = let w = F.widest in omega (arith, w.2, mem_sum size s.pieces w.0 w.1, pieces_sum)
+  largest_few = go (dec_lt s.largest 2)
+    where
+      go : Dec (s.largest < 2) → s.largest ≤ 64
+      go (yes l) = omega arith
+      go (no n) = let w = F.widest (omega arith) in omega (arith, w.2, mem_sum size s.pieces w.0 w.1, pieces_sum)
 
   -- what the state holds
   held_part : (c : ℕ) → Mem c (held_of r (pairs r) s) → Connected r c × (2 ≤ size c)

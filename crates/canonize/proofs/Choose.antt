@@ -1,30 +1,17 @@
--- From numbered bonds and a test on the numbers (a word's bits) to a piece of the molecule.
+-- The atoms that a list of bonds touches.
 use borrow.Author.Tests.{eqb-true, le-ltb, lt-ltb}
 use mathlib.Core.Path.{◌≡◌, refl, sym, ap}
-use mathlib.Core.Bool.{Bool, true, not}
+use mathlib.Core.Bool.{true, not}
 use mathlib.Core.List.Memᴰ.{head as m_head}
-use mathlib.Core.List.Permᴰ.{trans as p_trans}
-use mathlib.Core.List.{List, [], ◌∷◌, ◌++◌, map, Memᴰ as Mem, Permᴰ as Perm}
+use mathlib.Core.List.{List, [], ◌∷◌, Memᴰ as Mem}
 use Prim.Native.Nat.{ℕ, zero, suc, ◌≤◌}
 use native.Mathlib.Omega.{arith}
 use lib.ListN.{length}
 use lib.Dec.{eqb, ltb}
-use Rattle.molecule.proofs.Perms.{not_both, perm_eq, mem_some, perm_map, map-append, keep_mem, keep_intro, keep_split, keep_distinct, eqb_yes, eqb_no, perm_exchange}
-use Rattle.canonize.specs.Fragment.{Bond, Frag, arcs, degree, more, touched_by, turn}
+use Rattle.molecule.proofs.Perms.{not_both, mem_some, keep_mem, keep_intro, eqb_yes, eqb_no}
+use Rattle.canonize.specs.Fragment.{Bond, arcs, degree, more, touched_by}
 use Rattle.molecule.specs.Lists.{filter}
-use mathlib.Core.List.{append-nil}
-use Rattle.canonize.proofs.Rounds.{Treelike, arcs_some, arcs_turn}
-use Rattle.canonize.proofs.Hanging.{Clean}
-use Rattle.canonize.proofs.Parts.{ConnectedBonds}
-use Rattle.canonize.proofs.Facts.{Piece}
-
--- the bonds that a test on their numbers picks, and the others
-pub chosen_by : (bond : ℕ → Bond) (numbers : List ℕ) (p : ℕ → Bool) → Perm (map bond numbers) (map bond (filter p numbers) ++ map bond (filter (λ n. not (p n)) numbers))
-chosen_by bond numbers p =
-    p_trans (perm_map bond (p_trans (keep_split p numbers) (swap (filter (λ n. not (p n)) numbers) (filter p numbers)))) (perm_eq (map-append bond (filter p numbers) (filter (λ n. not (p n)) numbers)))
-  where
-    swap : (k l : List ℕ) → Perm (k ++ l) (l ++ k)
-    swap k l = p_trans (perm_eq (ap (λ (z : List ℕ). k ++ z) (sym (append-nil l)))) (p_trans (perm_exchange k l []) (perm_eq (ap (λ (z : List ℕ). l ++ z) (append-nil k))))
+use Rattle.canonize.proofs.Rounds.{Treelike}
 
 -- an atom that a bond touches: one of the atoms, and an arc leads to it
 pub touched_has : (bs : List Bond) (ns : List ℕ) {n : ℕ} → Mem n ns → (x : Bond) → Mem x (arcs bs) → x.v ≡ n → Mem n (touched_by bs ns)
@@ -46,16 +33,6 @@ touched_in bs ns {n} m =
         let w : Mem x (filter (λ (x : Bond). eqb x.v n) (arcs bs)) = rw e (m_head refl) in
         let (i, f) = keep_mem (λ (x : Bond). eqb x.v n) (arcs bs) w in
         (x, i, eqb-true x.v n f)
-
-pub piece_of : (a : Frag) → Clean a → (s rest : List Bond) → Perm a.bonds (s ++ rest) → ConnectedBonds s → Piece a (touched_by s a.atoms) s
-piece_of a c s rest p k = record {
-  rest = rest;
-  chosen = p;
-  connected = k;
-  distinct = keep_distinct (λ (n : ℕ). not (eqb (degree (arcs s) n) 0)) a.atoms c.tree.distinct;
-  ends = λ x m. let e = c.tree.ends x (arcs_some s rest p m) in (touched_has s a.atoms e.0 (turn x) (arcs_turn s m) refl, touched_has s a.atoms e.1 x m refl);
-  touched = λ n m. (touched_in s a.atoms m).1;
-}
 
 -- in a tree more than two atoms are left while more than one bond is
 pub more_bonds : (ns : List ℕ) (bs : List Bond) → Treelike ns bs → more ns ≡ ltb 1 (length bs)

@@ -22,9 +22,8 @@ use Rattle.canonize.proofs.RoseTrees.{Kids, nil, kid, RoseTree, bonds_in, bonds,
 use Rattle.canonize.proofs.Pairing.{atoms, all_items, items_length}
 use Rattle.canonize.proofs.Marks.{own_of}
 use Rattle.canonize.proofs.Peeling.{arcs_length, on_bond, tree_label, Joined}
-use Rattle.canonize.proofs.Rounds.{to_bond, arcs_some}
+use Rattle.canonize.proofs.Rounds.{to_bond}
 use Rattle.canonize.proofs.Hanging.{CodesOf, Clean, Holds, Result, one_centre, two_centres, attach, result, joined_of_label}
-use Rattle.canonize.proofs.Parts.{ConnectedBonds, connected_tree}
 
 -- lengths
 holds_bonds : (t : RoseTree) (a : Frag) → Holds t a → bonds t ≡ length a.bonds
@@ -82,22 +81,3 @@ pub distinct_image : {A B : Type 0} (f : A → B) (ms : List A) → ((m n : A) �
 distinct_image f [] i d = tt
 distinct_image f (m ∷ ms) i d =
     (λ k. let (n, l, e) = mem_of_map f ms k in d.0 (mem_cast (i m n (m_head refl) (m_tail l) (sym e)) l), distinct_image f ms (λ x y p q. i x y (m_tail p) (m_tail q)) d.1)
-
-abbrev pub part : Frag → List ℕ → List Bond → Frag
-part a ms s = record { atoms = ms; bonds = s; kind = a.kind }
-
--- A set of bonds s of the molecule a, with the atoms ms that it touches
-pub record Piece (a : Frag) (ms : List ℕ) (s : List Bond) : Type 0 where
-  pub rest : List Bond
-  pub chosen : Perm a.bonds (s ++ rest)
-  pub connected : ConnectedBonds s
-  pub distinct : Distinct ms
-  pub ends : (x : Bond) → Mem x (arcs s) → Mem x.u ms × Mem x.v ms
-  pub touched : (n : ℕ) → Mem n ms → (x : Bond) × Mem x (arcs s) × (x.v ≡ n)
-
-pub piece_clean : (a : Frag) → Clean a → (ms : List ℕ) (s : List Bond) → Piece a ms s → Clean (part a ms s)
-piece_clean a c ms s p = record {
-  tree = connected_tree a.atoms a.bonds c.tree s p.rest p.chosen p.connected ms p.distinct p.ends p.touched;
-  kinds = λ n m. let (x, i, e) = p.touched n m in c.kinds n (mem_cast (sym e) (c.tree.ends x (arcs_some s p.rest p.chosen i)).1);
-  codes = λ x m. c.codes x (arcs_some s p.rest p.chosen m);
-}

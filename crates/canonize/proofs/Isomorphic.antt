@@ -12,7 +12,7 @@ use Rattle.molecule.specs.Record.{bonds, end_a, end_b, code}
 use Rattle.molecule.specs.Check.{accepted, check}
 use Rattle.molecule.specs.Connected.{Own, Connected}
 use Rattle.molecule.specs.Tree.{Joins}
-use Rattle.molecule.proofs.Trees.{accepted_tree}
+use Rattle.molecule.proofs.Accepted.{accepted_forest}
 use Rattle.canonize.specs.Fragment.{arcs}
 use Rattle.canonize.specs.Label.{bonds_of, fragment, label}
 use Rattle.canonize.specs.Isomorphism.{AtomOf, Isomorphism}
@@ -90,7 +90,7 @@ module _ (r q : Bytes) (s t : ℕ) (ar : check r ≡ accepted) (aq : check q ≡
         let (v, mv, ev) = w.onto (end_b q j) (atom_has q t aq oq (j, h, inr refl)) in
         let (i, k, p, c) = arc_in r s (arc u v (code q j)) ((w.bonds u v (code q j) mu mv).1 (arc_has q t j (w.f u) (w.f v) h (inl (sym eu, sym ev)))) in
         let z = sent i k in
-        (i, k, (accepted_tree q aq).one (bond i) j (w.f u) (w.f v) (member_lt (bonds q) t (bond i) oq z.member) (member_lt (bonds q) t j oq h) (joins_map r q w.f i (bond i) u v p z.ends) (inl (sym eu, sym ev)))
+        (i, k, (accepted_forest q aq).one (bond i) j (w.f u) (w.f v) (member_lt (bonds q) t (bond i) oq z.member) (member_lt (bonds q) t j oq h) (joins_map r q w.f i (bond i) u v p z.ends) (inl (sym eu, sym ev)))
 
     bond_one : (i j : ℕ) → bit s i ≡ 1 → bit s j ≡ 1 → bond i ≡ bond j → i ≡ j
     bond_one i j h k e =
@@ -98,7 +98,7 @@ module _ (r q : Bytes) (s t : ℕ) (ar : check r ≡ accepted) (aq : check q ≡
         let b : Joins q (bond i) (w.f (end_a r j)) (w.f (end_b r j)) = rw e (sent j k).ends in
         let p = joins_paired q (bond i) (w.f (end_a r i)) (w.f (end_b r i)) (w.f (end_a r j)) (w.f (end_b r j)) a.ends b in
         let o = paired_back w.f (AtomOf r s) one_one (end_a r i) (end_b r i) (end_a r j) (end_b r j) (i, h, inl refl) (i, h, inr refl) (j, k, inl refl) (j, k, inr refl) p in
-        (accepted_tree r ar).one i j (end_a r j) (end_b r j) (member_lt (bonds r) s i or h) (member_lt (bonds r) s j or k) (paired_joins r i (end_a r i) (end_b r i) (end_a r j) (end_b r j) o (inl (refl, refl))) (inl (refl, refl))
+        (accepted_forest r ar).one i j (end_a r j) (end_b r j) (member_lt (bonds r) s i or h) (member_lt (bonds r) s j or k) (paired_joins r i (end_a r i) (end_b r i) (end_a r j) (end_b r j) o (inl (refl, refl))) (inl (refl, refl))
 
     from_lists : Isomorphism r s q t
     from_lists = record {

@@ -50,7 +50,7 @@ labelling_start {r} {s} ok w X = record {
   own = w.own;
   z = start (fragment r s);
   peeled = peeled_start (fragment_clean r s ok w.own w.connected) X;
-  small = omega (arith, (accepted_formed r ok).sized.count);
+  small = omega (arith, (accepted_formed r ok).sized.more);
   centred = λ e. absurd (w.connected.some e);
 }
 

@@ -12,7 +12,6 @@ pub mod Parts
 pub mod OnStrings
 pub mod Facts
 pub mod Choose
-pub mod OfRecords
 pub mod Plain
 pub mod Fragments
 pub mod Isomorphic

@@ -1,4 +1,4 @@
--- A connected set of bonds of a tree is a tree.
+-- A set of atoms of a tree holds fewer bonds than atoms. Assumes nothing.
 use Rattle.bitset.proofs.Bools.{two, or_left, or_right, and_true}
 use borrow.Author.Tests.{eqb-true, not-true}
 use mathlib.Core.Path.{◌≡◌, refl, sym, ap, ◌∙◌}
@@ -7,16 +7,15 @@ use mathlib.Core.Bool.{Bool, true, false, not, ◌||◌}
 use mathlib.Core.List.Memᴰ.{cast as mem_cast}
 use mathlib.Core.List.Memᴰ.{head as m_head}
 use mathlib.Core.List.Memᴰ.{tail as m_tail}
-use mathlib.Core.List.{List, [], ◌∷◌, ◌++◌, Memᴰ as Mem, Permᴰ as Perm}
+use mathlib.Core.List.{List, [], ◌∷◌, Memᴰ as Mem}
 use Prim.Native.Nat.{ℕ, zero, suc, ◌+◌, ◌≤◌}
 use native.Mathlib.Omega.{arith}
 use lib.ListN.{length, length-append}
 use lib.Dec.{eqb}
-use Rattle.molecule.proofs.Perms.{not_both, distinct_le, perm_length, Distinct, memb, keep_perm, keep_mem, keep_same, keep_split, keep_distinct, eqb_yes, eqb_no}
+use Rattle.molecule.proofs.Perms.{not_both, perm_length, Distinct, keep_mem, keep_same, keep_split, eqb_yes, eqb_no}
 use Rattle.canonize.specs.Fragment.{Bond, arcs, turn}
 use Rattle.molecule.specs.Lists.{filter}
 use Rattle.canonize.proofs.Peeling.{both}
-use Rattle.canonize.proofs.Rounds.{Treelike, arcs_turn, arcs_mem, arcs_some}
 
 both_true : (a b : Bool) → a ≡ true → b ≡ true → both a b ≡ true
 both_true a b e f = rw (e, f)
@@ -113,86 +112,3 @@ module _ (ns : List ℕ) (bs : List Bond) (d : Distinct ns) (ends : (x : Bond) �
 
   pub inside_bound : (A : ℕ → Bool) (p : ℕ) → Mem p ns → A p ≡ true → length (filter (inside A) bs) + length ns ≤ length bs + length (filter A ns)
   inside_bound A p i h = grows (length (filter (λ n. not (A n)) ns)) A p i h (omega arith)
-
-is : {P : Type 0} → Dec P → Bool
-is (yes p) = true
-is (no p) = false
-
-is_yes : {P : Type 0} (d : Dec P) → P → is d ≡ true
-unfolding is
-is_yes (yes p) q = refl
-is_yes (no p) q = absurd (p q)
-
-is_true : {P : Type 0} (d : Dec P) → is d ≡ true → P
-unfolding is
-is_true (yes p) e = p
-is_true (no p) e = absurd (not_both e refl)
-
--- n is an end of b; two bonds touch when they share an end
-abbrev pub Meets : ℕ → Bond → Type 0
-Meets n b = (b.u ≡ n) ⊎ (b.v ≡ n)
-
--- a walk from bond to touching bond inside s
-pub data BondWalk (s : List Bond) : Bond → Bond → Type 0 where
-  stop : {b c : Bond} → b ≡ c → BondWalk s b c
-  step : {b c d : Bond} (n : ℕ) → Meets n b → Meets n c → Mem c s → BondWalk s c d → BondWalk s b d
-
-pub record ConnectedBonds (s : List Bond) : Type 0 where
-  pub some : Bond
-  pub in_it : Mem some s
-  pub walk : (b c : Bond) → Mem b s → Mem c s → BondWalk s b c
-
-mixed : (S : ℕ → Bool) (s : List Bond) (b : Bond) (p n : ℕ) → Mem b s → Meets p b → Meets n b → S p ≡ true → S n ≡ false → (x : Bond) × Mem x (arcs s) × (S x.u ≡ true) × (S x.v ≡ false)
-mixed S s b p n m (inl e) (inl f) g h = absurd (not_both (ap S (sym f ∙ e) ∙ g) h)
-mixed S s b p n m (inl e) (inr f) g h = (b, arcs_mem s m, ap S e ∙ g, ap S f ∙ h)
-mixed S s b p n m (inr e) (inl f) g h = (turn b, arcs_turn s (arcs_mem s m), ap S e ∙ g, ap S f ∙ h)
-mixed S s b p n m (inr e) (inr f) g h = absurd (not_both (ap S (sym f ∙ e) ∙ g) h)
-
-walk_mixed : (S : ℕ → Bool) (s : List Bond) {b c : Bond} (p q : ℕ) → BondWalk s b c → Mem b s → Meets p b → Meets q c → S p ≡ true → S q ≡ false → (x : Bond) × Mem x (arcs s) × (S x.u ≡ true) × (S x.v ≡ false)
-walk_mixed S s {b} p q (stop e) m i j g h = mixed S s b p q m i (rw (← e) at j) g h
-walk_mixed S s {b} p q (step n k l o w) m i j g h = go (two (S n)) (λ z. walk_mixed S s n q w o l j z h)
-  where
-    go : (S n ≡ true) ⊎ (S n ≡ false) → (S n ≡ true → (x : Bond) × Mem x (arcs s) × (S x.u ≡ true) × (S x.v ≡ false)) → (x : Bond) × Mem x (arcs s) × (S x.u ≡ true) × (S x.v ≡ false)
-    go (inl z) r = r z
-    go (inr z) r = mixed S s b p n m i k g z
-
-meets_some : (s : List Bond) (n : ℕ) {x : Bond} → Mem x (arcs s) → x.v ≡ n → (b : Bond) × Mem b s × Meets n b
-meets_some s n {x} m e = go (arc_bond s m)
-  where
-    go : Mem x s ⊎ Mem (turn x) s → (b : Bond) × Mem b s × Meets n b
-    go (inl i) = (x, i, inr e)
-    go (inr i) = (turn x, i, inl e)
-
--- A connected set s of bonds of a tree, with its atoms ms, is a tree
-pub connected_tree : (ns : List ℕ) (bs : List Bond) → Treelike ns bs → (s rest : List Bond) → Perm bs (s ++ rest) → ConnectedBonds s → (ms : List ℕ) → Distinct ms
-    → ((x : Bond) → Mem x (arcs s) → Mem x.u ms × Mem x.v ms) → ((n : ℕ) → Mem n ms → (x : Bond) × Mem x (arcs s) × (x.v ≡ n)) → Treelike ms s
-connected_tree ns bs t s rest p c ms d ends meet =
-    let first_atom : Mem c.some.v ms = (ends c.some (arcs_mem s c.in_it)).1 in
-    -- no more atoms than one more than bonds, since s is connected
-    let low : length (filter (inside (λ n. eqb n c.some.v)) s) + length ms ≤ length s + length (filter (λ n. eqb n c.some.v) ms) =
-    inside_bound ms s d ends linked (λ n. eqb n c.some.v) c.some.v first_atom (eqb_yes {a = c.some.v} refl) in
-    let one : length (filter (λ n. eqb n c.some.v) ms) ≤ 1 = distinct_le (filter (λ n. eqb n c.some.v) ms) (c.some.v ∷ []) (keep_distinct (λ n. eqb n c.some.v) ms d) (λ y m. m_head (eqb-true y c.some.v (keep_mem (λ n. eqb n c.some.v) ms m).1)) in
-    -- no fewer, since the molecule has no ring
-    let A : ℕ → Bool = λ n. is (memb n ms) in
-    let high : length (filter (inside A) bs) + length ns ≤ length bs + length (filter A ns) =
-    inside_bound ns bs t.distinct t.ends t.linked A c.some.v (t.ends c.some (arcs_some s rest p (arcs_mem s c.in_it))).1 (is_yes (memb c.some.v ms) first_atom) in
-    let within : length s ≤ length (filter (inside A) bs) =
-    omega (arith, perm_length (keep_perm (inside A) p), keep_parts (inside A) s rest, keep_all (inside A) s (λ b i. let e = ends b (arcs_mem s i) in both_true (A b.u) (A b.v) (is_yes (memb b.u ms) e.0) (is_yes (memb b.v ms) e.1))) in
-    let few : length (filter A ns) ≤ length ms = distinct_le (filter A ns) ms (keep_distinct A ns t.distinct) (λ y m. is_true (memb y ms) (keep_mem A ns m).1) in
-    record { distinct = d; ends = ends; count = omega (arith, t.count); linked = linked }
-  where
-    keep_parts : (q : Bond → Bool) (k l : List Bond) → length (filter q (k ++ l)) ≡ length (filter q k) + length (filter q l)
-    keep_parts q [] l = omega arith
-    keep_parts q (x ∷ k) l = go (two (q x)) (keep_parts q k l)
-      where
-        go : (q x ≡ true) ⊎ (q x ≡ false) → length (filter q (k ++ l)) ≡ length (filter q k) + length (filter q l) → length (filter q ((x ∷ k) ++ l)) ≡ length (filter q (x ∷ k)) + length (filter q l)
-        go (inl e) r = rw e (omega arith)
-        go (inr e) r = rw e r
-
-    linked : Crossed ms s
-    linked S a b i j g h =
-        let (x, k, e) = meet a i in
-        let (y, l, f) = meet b j in
-        let (v, m, o) = meets_some s a k e in
-        let (w, n, r) = meets_some s b l f in
-        walk_mixed S s a b (c.walk v w m n) m o r g h

@@ -4,7 +4,7 @@ use Rattle.bitset.proofs.Bools.{two, or_true, or_right}
 use borrow.Author.Tests.{eqb-true}
 use mathlib.Core.Path.{◌≡◌, refl, sym, ap, ap₂, ◌∙◌}
 use mathlib.Core.Logic.{◌⊎◌, inl, inr, ◌↔◌}
-use mathlib.Core.Bool.{Bool, true, false, not, ◌||◌}
+use mathlib.Core.Bool.{Bool, true, false, ◌||◌}
 use mathlib.Core.List.Memᴰ.{cast as mem_cast}
 use mathlib.Core.List.Memᴰ.{head as m_head}
 use mathlib.Core.List.Memᴰ.{map as mem_map}
@@ -20,15 +20,13 @@ use native.Mathlib.Omega.{arith}
 use lib.ListN.{length}
 use lib.Dec.{eqb}
 use Rattle.molecule.proofs.Perms.{perm_mem, out_perm, mem_out, mem_some, Distinct, distinct_perm, keep_mem, keep_intro, keep_distinct, eqb_yes, distinct_le}
-use Rattle.canonize.specs.Fragment.{Bond, Frag, arcs, label_of, touched_by, turn}
-use Rattle.molecule.specs.Lists.{filter, numbers_from}
+use Rattle.canonize.specs.Fragment.{Bond, Frag, arcs, label_of, turn}
+use Rattle.molecule.specs.Lists.{filter}
 use Rattle.canonize.proofs.Peeling.{on_bond, both, Joined}
 use Rattle.canonize.proofs.Rounds.{Treelike, arcs_turn}
 use Rattle.canonize.proofs.Hanging.{Clean, label_iff}
-use Rattle.canonize.proofs.Parts.{ConnectedBonds, inside, inside_bound, arc_bond}
-use Rattle.canonize.proofs.Facts.{distinct_image, joined_arc, joined_arc_onto, joined_injective, piece_clean}
-use Rattle.canonize.proofs.Choose.{piece_of, chosen_by}
-use Rattle.canonize.proofs.OfRecords.{Accepted, accepted_clean, molecule, fragment}
+use Rattle.canonize.proofs.Parts.{inside, inside_bound, arc_bond}
+use Rattle.canonize.proofs.Facts.{distinct_image, joined_arc, joined_arc_onto, joined_injective}
 use Rattle.canonize.proofs.OnStrings.{label_document}
 
 -- two lists without repetition and with the same members
@@ -168,9 +166,3 @@ joined_of_isomorphism a b k l i = record {
 pub label_isomorphism : (a b : Frag) → Clean a → Clean b → (label_of a ≡ label_of b) ↔ Isomorphism a b
 label_isomorphism a b k l =
     (λ e. isomorphism_of_joined a b k l ((label_iff a b k l).0 (label_document a ∙ e ∙ sym (label_document b))), λ i. sym (label_document a) ∙ (label_iff a b k l).1 (joined_of_isomorphism a b k l i) ∙ label_document b)
-
--- for sets of bond numbers of an accepted record
-pub fragment_clean : (a n : ℕ) (kind : ℕ → List ℕ) (bond : ℕ → Bond) → Accepted a n kind bond → (p : ℕ → Bool) → ConnectedBonds (map bond (filter p (numbers_from 0 n))) → Clean (fragment a n kind bond p)
-fragment_clean a n kind bond r p c =
-    piece_clean (molecule a n kind bond) (accepted_clean a n kind bond r) (touched_by (map bond (filter p (numbers_from 0 n))) (numbers_from 0 a)) (map bond (filter p (numbers_from 0 n)))
-    (piece_of (molecule a n kind bond) (accepted_clean a n kind bond r) (map bond (filter p (numbers_from 0 n))) (map bond (filter (λ i. not (p i)) (numbers_from 0 n))) (chosen_by bond (numbers_from 0 n) p) c)

@@ -4,7 +4,6 @@ use borrow.Author.Tests.{eqb-false, eqb-true, not-true}
 use mathlib.Core.Path.{◌≡◌, refl, sym, ap, ap₂, ◌∙◌}
 use mathlib.Core.Logic.{◌⊎◌, inl, inr}
 use mathlib.Core.Bool.{Bool, true, false, not, ◌&&◌, ◌||◌}
-use mathlib.Core.List.Memᴰ.{append_left as mem_left}
 use mathlib.Core.List.Memᴰ.{head as m_head}
 use mathlib.Core.List.Memᴰ.{tail as m_tail}
 use mathlib.Core.List.Permᴰ.{append_left as perm_left}
@@ -21,7 +20,7 @@ use native.Mathlib.Omega.{arith}
 use native.Mathlib.Decide.{ℕ_discrete}
 use lib.ListN.{length, length-append, length-map}
 use lib.Dec.{eqb}
-use Rattle.molecule.proofs.Perms.{not_both, perm_append, perm_exchange, perm_eq, perm_length, perm_mem, mem_some, Distinct, perm_map, keep_mem, keep_intro, keep_same, keep_split, keep_distinct, eqb_yes, eqb_no}
+use Rattle.molecule.proofs.Perms.{not_both, perm_append, perm_exchange, perm_eq, perm_length, mem_some, Distinct, perm_map, keep_mem, keep_intro, keep_same, keep_split, keep_distinct, eqb_yes, eqb_no}
 use Rattle.canonize.specs.Fragment.{Bond, arcs, degree, end_atom, more, to_ends, turn}
 use Rattle.molecule.specs.Lists.{filter, pick}
 use Rattle.canonize.proofs.RoseTrees.{Kids}
@@ -58,10 +57,6 @@ arcs_perm (p_trans d g) = p_trans (arcs_perm d) (arcs_perm g)
 pub arcs_append : (k l : List Bond) → arcs (k ++ l) ≡ arcs k ++ arcs l
 arcs_append [] l = refl
 arcs_append (b ∷ k) l = ap (λ (z : List Bond). b ∷ turn b ∷ z) (arcs_append k l)
-
--- the arcs of some of the bonds are among those of all
-pub arcs_some : {bs : List Bond} (s rest : List Bond) → Perm bs (s ++ rest) → {x : Bond} → Mem x (arcs s) → Mem x (arcs bs)
-arcs_some s rest p m = perm_mem (perm_sym (arcs_perm p)) (rw (arcs_append s rest) (mem_left (arcs rest) m))
 
 abbrev leads : ℕ → Bond → Bool
 leads n x = eqb x.v n

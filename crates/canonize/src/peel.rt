@@ -16,7 +16,7 @@ use molecule::Molecule;
 // Whether atom v has one bond of left.
 #[tactic(auto, using(molecule::proofs::Words::atoms_at), unfolding(crate::specs::Inner::Words::is_tip))]
 fn is_tip(molecule: &Molecule, left: u64, v: usize) -> bool
-    requires { v < 65 }
+    requires { v < 72 }
     ensures { result ≡ is_tip molecule.now.bytes.now left v }
 {
     bitset::size(bitset::common(molecule.at[v], left)) == 1

@@ -1,19 +1,22 @@
 -- What the rows say of a record that they do not turn back. Assumes nothing.
-use mathlib.Core.Path.{◌≡◌, refl, ap}
-use mathlib.Core.Logic.{◌≢◌}
-use mathlib.Core.Bool.{Bool, true, false, not, ◌||◌, false≢true}
+use mathlib.Core.Path.{◌≡◌, refl, sym, ap, ◌∙◌}
+use mathlib.Core.Logic.{◌≢◌, ◌↔◌}
+use mathlib.Core.Bool.{Bool, true, false, not, ◌||◌, false≢true, true≢false}
 use Prim.Native.Nat.{ℕ, ◌+◌, ◌*◌, ◌≤◌, ◌<◌}
 use native.Mathlib.Omega.{arith}
 use lib.ListN.{length}
 use lib.Dec.{eqb, ltb, leb}
-use borrow.Author.Tests.{eqb-true, eqb-false, ltb-false, leb-false, not-false}
-use Rattle.bitset.specs.Bits.{bit, has}
+use borrow.Author.Tests.{eqb-true, eqb-false, ltb-false, leb-false, not-false, eq-eqb}
+use Rattle.bitset.specs.Bits.{bit}
 use Rattle.bitset.proofs.Bools.{or_false}
 use Rattle.molecule.specs.Lists.{Bytes, first}
 use Rattle.molecule.specs.Record.{atoms, bonds, element, class, end_a, end_b, code}
-use Rattle.molecule.specs.Check.{Answer, accepted, refused, row, row_at, wrong_byte, bad_length, bad_counts, bad_element, bad_class, bad_code, bad_ends, reached, unreached, check}
-use Rattle.molecule.specs.Tree.{RightCounts, Formed}
+use Rattle.molecule.specs.Check.{Answer, accepted, refused, row, row_at, wrong_byte, bad_length, bad_counts, bad_element, bad_class, bad_code, bad_ends, below, reached, closes, check}
+use Rattle.molecule.specs.Tree.{RightCounts, Formed, Walk, Forest}
 use Rattle.molecule.proofs.Scans.{first_none}
+use Rattle.molecule.proofs.Walks.{below_lt}
+use Rattle.molecule.proofs.Reached.{reached_walk, walk_reached}
+use Rattle.molecule.proofs.Rings.{splits_all, one_pair}
 
 -- ---- a row that does not turn back
 
@@ -41,14 +44,15 @@ module _ (r : Bytes) where
       let w = or_false (ltb (length r) 2) (not (eqb (length r) (2 + 2 * atoms r + 3 * bonds r))) e in
       eqb-true (length r) (2 + 2 * atoms r + 3 * bonds r) (not-false (eqb (length r) (2 + 2 * atoms r + 3 * bonds r)) w.1)
 
-  pub counts_right : bad_counts r ≡ false → (bonds r ≤ 64) × (atoms r ≡ bonds r + 1)
+  pub counts_right : bad_counts r ≡ false → (bonds r ≤ 64) × (bonds r < atoms r) × (atoms r ≤ bonds r + 8)
   unfolding bad_counts
   counts_right e =
-      let c = or_false (ltb 64 (bonds r)) (not (eqb (atoms r) (bonds r + 1))) e in
-      (ltb-false 64 (bonds r) c.0, eqb-true (atoms r) (bonds r + 1) (not-false (eqb (atoms r) (bonds r + 1)) c.1))
+      let c = or_false (ltb 64 (bonds r) || leb (atoms r) (bonds r)) (ltb (bonds r + 8) (atoms r)) e in
+      let d = or_false (ltb 64 (bonds r)) (leb (atoms r) (bonds r)) c.0 in
+      (ltb-false 64 (bonds r) d.0, leb-false (atoms r) (bonds r) d.1, ltb-false (bonds r + 8) (atoms r) c.1)
 
   pub sized_of : bad_length r ≡ false → bad_counts r ≡ false → RightCounts r
-  sized_of l c = let w = counts_right c in record { long = length_right l; few = w.0; count = w.1 }
+  sized_of l c = let w = counts_right c in record { long = length_right l; few = w.0; more = w.1; most = w.2 }
 
   byte_right : (b : ℕ) → wrong_byte b ≡ false → (b ≢ 0) × (b ≢ 255)
   byte_right b e = let w = or_false (eqb b 0) (eqb b 255) e in (eqb-false b 0 w.0, eqb-false b 255 w.1)
@@ -75,9 +79,21 @@ module _ (r : Bytes) where
       let q = or_false (leb (atoms r) (end_a r i)) (leb (atoms r) (end_b r i)) p.0 in
       (leb-false (atoms r) (end_a r i) q.0, leb-false (atoms r) (end_b r i) q.1, eqb-false (end_a r i) (end_b r i) p.1)
 
-  pub is_reached : (v : ℕ) → unreached r v ≡ false → bit (reached r) v ≡ 1
-  unfolding unreached
-  is_reached v e = eqb-true (bit (reached r) v) 1 (not-false (has (reached r) v) e)
+  -- the ends of bonds below one of the record are atoms
+  pub ends_below : Formed r → (k : ℕ) → k ≤ bonds r → (i : ℕ) → bit (below k) i ≡ 1 → (end_a r i < atoms r) × (end_b r i < atoms r)
+  ends_below f k l i m = let w = f.ends i (omega (arith, below_lt k i m)) in (w.0, w.1)
+
+  -- row 6's test says whether a walk along lower bonds joins the ends
+  pub closes_walk : (i : ℕ) → closes r i ≡ true → Walk r (below i) (end_a r i) (end_b r i)
+  unfolding closes
+  closes_walk i e = reached_walk r (below i) (end_a r i) (end_b r i) (eqb-true (bit (reached r (below i) (end_a r i)) (end_b r i)) 1 e)
+
+  pub walk_closes : Formed r → (i : ℕ) → i < bonds r → Walk r (below i) (end_a r i) (end_b r i) → closes r i ≡ true
+  unfolding closes
+  walk_closes f i l p = eq-eqb (bit (reached r (below i) (end_a r i)) (end_b r i)) 1 (walk_reached r (below i) (ends_below f i (omega arith)) (end_a r i) (end_b r i) p)
+
+  pub closes_iff : Formed r → (i : ℕ) → i < bonds r → (closes r i ≡ true) ↔ Walk r (below i) (end_a r i) (end_b r i)
+  closes_iff f i l = (closes_walk i, walk_closes f i l)
 
 -- ---- an accepted record: no row turns it back
 
@@ -88,7 +104,7 @@ record Passed (r : Bytes) : Type 0 where
   classes : (v : ℕ) → v < atoms r → bad_class r v ≡ false
   codes : (i : ℕ) → i < bonds r → bad_code r i ≡ false
   ends : (i : ℕ) → i < bonds r → bad_ends r i ≡ false
-  reaches : (v : ℕ) → v < atoms r → unreached r v ≡ false
+  ringless : (i : ℕ) → i < bonds r → closes r i ≡ false
 
 module _ (r : Bytes) (e : check r ≡ accepted) where
   passed : Passed r
@@ -100,8 +116,8 @@ module _ (r : Bytes) (e : check r ≡ accepted) where
       let a15 = row_at_next 15 (bad_class r) (atoms r) _ a3.1 in
       let a4 = row_at_next 4 (bad_code r) (bonds r) _ a15.1 in
       let a5 = row_at_next 5 (bad_ends r) (bonds r) _ a4.1 in
-      let a6 = row_at_next 6 (unreached r) (atoms r) accepted a5.1 in
-      record { lengths = a1.0; counts = a2.0; elements = a3.0; classes = a15.0; codes = a4.0; ends = a5.0; reaches = a6.0 }
+      let a6 = row_at_next 6 (closes r) (bonds r) accepted a5.1 in
+      record { lengths = a1.0; counts = a2.0; elements = a3.0; classes = a15.0; codes = a4.0; ends = a5.0; ringless = a6.0 }
 
   pub accepted_formed : Formed r
   accepted_formed = record { sized = sized_of r passed.lengths passed.counts; ends = λ i l. ends_right r i (passed.ends i l) }
@@ -115,9 +131,21 @@ module _ (r : Bytes) (e : check r ≡ accepted) where
   pub accepted_codes : (i : ℕ) → i < bonds r → (1 ≤ code r i) × (code r i ≤ 3)
   accepted_codes i l = code_right r i (passed.codes i l)
 
-  pub accepted_reached : (v : ℕ) → v < atoms r → bit (reached r) v ≡ 1
-  accepted_reached v l = is_reached r v (passed.reaches v l)
+  -- no walk along lower bonds joins the ends of a bond
+  pub accepted_ringless : (i : ℕ) → i < bonds r → Walk r (below i) (end_a r i) (end_b r i) → ⊥
+  accepted_ringless i l p = true≢false (sym (walk_closes r accepted_formed i l p) ∙ passed.ringless i l)
 
--- the ends of a bond are among the 65 atom numbers
-pub end_few : (r : Bytes) (i : ℕ) → Formed r → i < bonds r → (end_a r i < 65) × (end_b r i < 65)
+-- so it is a forest
+pub accepted_forest : (r : Bytes) → check r ≡ accepted → Forest r
+accepted_forest r e = record {
+  formed = accepted_formed r e;
+  elements = accepted_elements r e;
+  classes = accepted_classes r e;
+  codes = accepted_codes r e;
+  one = one_pair r (splits_all r (bonds r) (accepted_ringless r e));
+  splits = splits_all r (bonds r) (accepted_ringless r e);
+}
+
+-- the ends of a bond are among the 72 atom numbers
+pub end_few : (r : Bytes) (i : ℕ) → Formed r → i < bonds r → (end_a r i < 72) × (end_b r i < 72)
 end_few r i k h = let w = k.ends i h in let s = k.sized in (omega (arith, w.0), omega (arith, w.1))

@@ -10,7 +10,7 @@ use Rattle.std.proofs.Common.{None, Some}
 use Rattle.std.proofs.lemmas.Bool.Decides.{nat_tests}
 use Rattle.molecule.specs.Lists.{Bytes, first}
 use Rattle.molecule.specs.Record.{atoms, bonds}
-use Rattle.molecule.specs.Check.{Answer, accepted, refused, row, row_at, bad_length, bad_counts, bad_element, bad_class, bad_code, bad_ends, unreached, check}
+use Rattle.molecule.specs.Check.{Answer, accepted, refused, row, row_at, bad_length, bad_counts, bad_element, bad_class, bad_code, bad_ends, closes, check}
 use Rattle.molecule.specs.Tree.{RightCounts, Formed}
 use Rattle.molecule.specs.Verdict.{number_of}
 use Rattle.molecule.specs.declared.Fault.{Fault}
@@ -47,7 +47,7 @@ row_at_none k fault n next h = row_at_pass k fault n next (first_past fault n h)
 module _ (r : Bytes) (s : RightCounts r) where
   -- the rows from 6, from 5 and so on back to 3
   abbrev from6 : Answer
-  from6 = row_at 6 (unreached r) (atoms r) accepted
+  from6 = row_at 6 (closes r) (bonds r) accepted
 
   abbrev from5 : Answer
   from5 = row_at 5 (bad_ends r) (bonds r) from6
@@ -94,11 +94,11 @@ module _ (r : Bytes) (s : RightCounts r) where
           past_5 : check r ≡ from6
           past_5 = past_4 ∙ row_at_none 5 (bad_ends r) (bonds r) from6 ends
 
-          pub row_6 : (v : ℕ) → IsLowest (unreached r) (atoms r) (Some v) → refused 6 v ≡ check r
-          row_6 v h = sym (past_5 ∙ row_at_some 6 (unreached r) (atoms r) accepted v h)
+          pub row_6 : (i : ℕ) → IsLowest (closes r) (bonds r) (Some i) → refused 6 i ≡ check r
+          row_6 i h = sym (past_5 ∙ row_at_some 6 (closes r) (bonds r) accepted i h)
 
-          pub no_row : IsLowest (unreached r) (atoms r) None → accepted ≡ check r
-          no_row h = sym (past_5 ∙ row_at_none 6 (unreached r) (atoms r) accepted h)
+          pub no_row : IsLowest (closes r) (bonds r) None → accepted ≡ check r
+          no_row h = sym (past_5 ∙ row_at_none 6 (closes r) (bonds r) accepted h)
 
   -- what row 6 may ask of the record
   pub formed : IsLowest (bad_ends r) (bonds r) None → Formed r
@@ -122,4 +122,4 @@ fault_row (fault.Element v) = inl (omega arith)
 fault_row (fault.Class v) = inr refl
 fault_row (fault.Code i) = inl (omega arith)
 fault_row (fault.Ends i) = inl (omega arith)
-fault_row (fault.Unreached v) = inl (omega arith)
+fault_row (fault.Ring i) = inl (omega arith)

@@ -7,16 +7,16 @@ use mathlib.Core.List.Memᴰ.{head as m_head}
 use mathlib.Core.List.Permᴰ.{middle as perm_middle}
 use mathlib.Core.List.Permᴰ.{trans as p_trans}
 use mathlib.Core.List.{List, [], ◌∷◌, ◌++◌, append-nil, Memᴰ as Mem, Permᴰ as Perm}
-use Prim.Native.Nat.{ℕ, zero, suc, ◌^◌, ◌<◌}
+use Prim.Native.Nat.{ℕ, ◌^◌, ◌<◌}
 use native.Mathlib.Omega.{arith}
 use lib.ListN.{length}
 use lib.Bits.{bit_and, bit_or}
 use Rattle.bitset.specs.Bits.{bit, has, Sub, Disjoint, diff, members, Ascending}
-use Rattle.bitset.proofs.Laws.{members_ascend, members_size, size_one, bit_one, one_sub, member_lt, or_cases}
+use Rattle.bitset.proofs.Laws.{members_ascend, members_size, size_one, bit_one, one_sub, or_cases}
 use Rattle.bitset.proofs.Decide.{v, and, or, less, is, sub, apart, sets}
 use Rattle.bitset.proofs.Members.{members_bit, bit_members, or_left_in, or_right_in, apart_out}
-use Rattle.molecule.specs.Lists.{filter, numbers_from}
-use Rattle.molecule.proofs.Lists.{Ordered, ordered_keep, ordered_same, numbers_bounds, numbers_mem}
+use Rattle.molecule.specs.Lists.{filter}
+use Rattle.molecule.proofs.Lists.{Ordered, ordered_keep, ordered_same}
 use Rattle.molecule.proofs.Perms.{not_both, eqb_yes, eqb_no, keep_mem, keep_intro, keep_split}
 
 abbrev Rising : List ℕ → Type 0
@@ -32,11 +32,6 @@ members_rise s = go (members s) (members_ascend s 0)
     go [] a = tt
     go (x ∷ l) a = (a.0, go l a.1)
 
-numbers_rise : (n k : ℕ) → Rising (numbers_from k n)
-unfolding numbers_from
-numbers_rise zero k = tt
-numbers_rise (suc n) k = (λ y m. let h = numbers_bounds n (suc k) m in omega (arith, h.0), numbers_rise n (suc k))
-
 -- the members of s that pass a test are those of the set t of them
 pub members_keep : (p : ℕ → Bool) (s t : ℕ) → ((i : ℕ) → bit t i ≡ 1 → (bit s i ≡ 1) × (p i ≡ true)) → ((i : ℕ) → bit s i ≡ 1 → p i ≡ true → bit t i ≡ 1)
     → filter p (members s) ≡ members t
@@ -44,14 +39,6 @@ members_keep p s t f g =
     rising_same (filter p (members s)) (members t) (ordered_keep ◌<◌ p (members s) (members_rise s)) (members_rise t)
     (λ i m. let w = keep_mem p (members s) m in bit_members t i (g i (members_bit s i w.0) w.1))
     (λ i m. let w = f i (members_bit t i m) in keep_intro p (members s) (bit_members s i w.0) w.1)
-
--- the members are the numbers that pass the set's test, in order
-pub members_filter : (n s : ℕ) → s < 2 ^ n → members s ≡ filter (has s) (numbers_from 0 n)
-members_filter n s h =
-    rising_same (members s) (filter (has s) (numbers_from 0 n)) (members_rise s) (ordered_keep ◌<◌ (has s) (numbers_from 0 n) (numbers_rise n 0))
-    (λ i m. let b = members_bit s i m in keep_intro (has s) (numbers_from 0 n) (numbers_mem n 0 i (omega arith) (omega (arith, member_lt n s i h b)))
-    (eqb_yes b))
-    (λ i m. bit_members s i (eqb-true (bit s i) 1 (keep_mem (has s) (numbers_from 0 n) m).1))
 
 -- of two sets with no member in common: those of the one, and those of the other
 pub members_join : (s t : ℕ) → Disjoint s t → Perm (members (bit_or s t)) (members s ++ members t)

@@ -9,7 +9,7 @@ use borrow.Author.Tests.{eqb-true, eq-eqb}
 use Rattle.bitset.specs.Bits.{bit}
 use Rattle.bitset.proofs.Bools.{or_true, or_left, or_right}
 use Rattle.bitset.proofs.Laws.{bit_le, bit_diff, bit_one, bit_other, or_cases}
-use Rattle.bitset.proofs.Members.{or_left_in, or_right_in, diff_in, set_of_lt, set_of_in, set_of_has}
+use Rattle.bitset.proofs.Members.{or_left_in, or_right_in, diff_in, set_of_in, set_of_has}
 use Rattle.molecule.specs.Lists.{Bytes}
 use Rattle.molecule.specs.Record.{bonds, end_a, end_b}
 use Rattle.molecule.specs.Touch.{is_end, bonds_at, touching}
@@ -55,10 +55,6 @@ module _ (r : Bytes) where
   -- the bonds at either end of i
   abbrev both : ℕ → ℕ
   both i = bit_or (bonds_at r (end_a r i)) (bonds_at r (end_b r i))
-
-  pub at_own : (v : ℕ) → bonds_at r v < 2 ^ bonds r
-  unfolding bonds_at
-  at_own v = set_of_lt (is_end r v) (bonds r)
 
   pub touch_in : (i j : ℕ) → Touch r i j → (j ≢ i) × (j < bonds r) × Share i j
   unfolding touching

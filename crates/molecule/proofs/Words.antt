@@ -23,32 +23,32 @@ use Rattle.molecule.proofs.Lists.{length_list, list_at, zeros_at}
 module _ (r : Bytes) where
   -- ---- the bonds at each atom
 
-  pub atoms_at : (v : ℕ) → v < 65 → get_or (bonds_at_words r) v 0 ≡ bonds_at r v
+  pub atoms_at : (v : ℕ) → v < 72 → get_or (bonds_at_words r) v 0 ≡ bonds_at r v
   unfolding bonds_at_words
-  atoms_at v h = list_at (bonds_at r) 0 65 v 0 h ∙ ap (bonds_at r) (zero-add v)
+  atoms_at v h = list_at (bonds_at r) 0 72 v 0 h ∙ ap (bonds_at r) (zero-add v)
 
-  -- the list l, of 65 words, has the first i bonds
+  -- the list l, of 72 words, has the first i bonds
   pub record AtomsUpTo (i : ℕ) (l : List ℕ) : Type 0 where
-    pub long : length l ≡ 65
-    pub each : (v : ℕ) → v < 65 → get_or l v 0 ≡ set_of (is_end r v) i
+    pub long : length l ≡ 72
+    pub each : (v : ℕ) → v < 72 → get_or l v 0 ≡ set_of (is_end r v) i
 
   -- at the loop's start, and at its end
-  pub atoms_start : AtomsUpTo 0 (replicate 65 0)
-  atoms_start = record { long = refl; each = λ v h. zeros_at 65 v ∙ sym (set_of_none (is_end r v)) }
+  pub atoms_start : AtomsUpTo 0 (replicate 72 0)
+  atoms_start = record { long = refl; each = λ v h. zeros_at 72 v ∙ sym (set_of_none (is_end r v)) }
 
   pub atoms_are : (l : List ℕ) → AtomsUpTo (bonds r) l → l ≡ bonds_at_words r
   unfolding bonds_at_words bonds_at
-  atoms_are l w = ext_get_or 0 l (bonds_at_words r) (w.long ∙ sym (length_list (bonds_at r) 0 65)) (λ v h. w.each v (omega (arith, w.long)) ∙ sym (atoms_at v (omega (arith, w.long))))
+  atoms_are l w = ext_get_or 0 l (bonds_at_words r) (w.long ∙ sym (length_list (bonds_at r) 0 72)) (λ v h. w.each v (omega (arith, w.long)) ∙ sym (atoms_at v (omega (arith, w.long))))
 
   -- bond i is put at its two ends
-  module _ (i : ℕ) (l : List ℕ) (w : AtomsUpTo i l) (ha : end_a r i < 65) (hb : end_b r i < 65) (apart : end_a r i ≢ end_b r i) where
+  module _ (i : ℕ) (l : List ℕ) (w : AtomsUpTo i l) (ha : end_a r i < 72) (hb : end_b r i < 72) (apart : end_a r i ≢ end_b r i) where
     abbrev once : List ℕ
     once = set l (end_a r i) (bit_or (get_or l (end_a r i) 0) (2 ^ i))
 
     abbrev twice : List ℕ
     twice = set once (end_b r i) (bit_or (get_or once (end_b r i) 0) (2 ^ i))
 
-    an_end : (v : ℕ) → v < 65 → is_end r v i ≡ true → bit_or (get_or l v 0) (2 ^ i) ≡ set_of (is_end r v) (i + 1)
+    an_end : (v : ℕ) → v < 72 → is_end r v i ≡ true → bit_or (get_or l v 0) (2 ^ i) ≡ set_of (is_end r v) (i + 1)
     an_end v h e = ap (λ (x : ℕ). bit_or x (2 ^ i)) (w.each v h) ∙ sym (set_of_next (is_end r v) i e)
 
     at_a : get_or twice (end_a r i) 0 ≡ set_of (is_end r (end_a r i)) (i + 1)
@@ -65,7 +65,7 @@ module _ (r : Bytes) where
         ∙ ap (λ (x : ℕ). bit_or x (2 ^ i)) (get_or-set_other l (end_a r i) (end_b r i) (bit_or (get_or l (end_a r i) 0) (2 ^ i)) 0 (λ e. apart (sym e)))
         ∙ an_end (end_b r i) hb (or_right (eqb (end_a r i) (end_b r i)) (eqb (end_b r i) (end_b r i)) (eq-eqb (end_b r i) (end_b r i) refl))
 
-    elsewhere : (v : ℕ) → v < 65 → v ≢ end_a r i → v ≢ end_b r i → get_or twice v 0 ≡ set_of (is_end r v) (i + 1)
+    elsewhere : (v : ℕ) → v < 72 → v ≢ end_a r i → v ≢ end_b r i → get_or twice v 0 ≡ set_of (is_end r v) (i + 1)
     unfolding is_end
     elsewhere v h na nb =
         get_or-set_other once (end_b r i) v (bit_or (get_or once (end_b r i) 0) (2 ^ i)) 0 nb
@@ -79,7 +79,7 @@ module _ (r : Bytes) where
       each = λ v h. go v h (ℕ_discrete v (end_a r i)) (ℕ_discrete v (end_b r i));
     }
       where
-        go : (v : ℕ) → v < 65 → Dec (v ≡ end_a r i) → Dec (v ≡ end_b r i) → get_or twice v 0 ≡ set_of (is_end r v) (i + 1)
+        go : (v : ℕ) → v < 72 → Dec (v ≡ end_a r i) → Dec (v ≡ end_b r i) → get_or twice v 0 ≡ set_of (is_end r v) (i + 1)
         go v h (yes e) d = rw e at_a
         go v h (no n) (yes e) = rw e at_b
         go v h (no n) (no m) = elsewhere v h n m

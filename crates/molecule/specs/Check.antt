@@ -1,9 +1,9 @@
 -- Document 01, 'Answers and turned-back records': rows 1 to 6, and check's answer; row 15 is document 02's, 1/14.
-use Rattle.std.specs.Prelude.{Bool, true, false, not, ◌||◌, ℕ, zero, suc, ◌+◌, ◌*◌, ◌^◌, length, ltb, leb, eqb}
+use Rattle.std.specs.Prelude.{Bool, true, false, not, ◌||◌, ℕ, zero, suc, ◌+◌, ◌-◌, ◌*◌, ◌^◌, length, ltb, leb, eqb}
 use Rattle.std.specs.Int.Bits.{bit_or}
 use Rattle.bitset.specs.Bits.{has, members, unions}
 use Rattle.molecule.specs.Lists.{Bytes, first}
-use Rattle.molecule.specs.Record.{atoms, bonds, element, class, end_a, end_b, code, all_bonds}
+use Rattle.molecule.specs.Record.{atoms, bonds, element, class, end_a, end_b, code}
 
 -- an answer of the table: accepted, or turned back with the row's number and place
 pub data Answer : Type 0 where
@@ -40,14 +40,18 @@ wrong_code c = eqb c 0 || ltb 3 c
 abbrev pub wrong_ends : ℕ → ℕ → ℕ → Bool
 wrong_ends a u v = leb a u || leb a v || eqb u v
 
+-- the bonds with numbers below i
+abbrev pub below : ℕ → ℕ
+below i = 2 ^ i - 1
+
 module _ (r : Bytes) where
   -- row 1: under 2 bytes, or not 2 + 2a + 3n
   unfoldable pub bad_length : Bool
   bad_length = ltb (length r) 2 || not (eqb (length r) (2 + 2 * atoms r + 3 * bonds r))
 
-  -- row 2: n is over 64, or a is not n + 1; so, by document 02, 5/14, n = 0 with any a but 1
+  -- row 2: n is over 64, or a − n is not 1 to 8, the number of trees (document 02, 9/14)
   unfoldable pub bad_counts : Bool
-  bad_counts = ltb 64 (bonds r) || not (eqb (atoms r) (bonds r + 1))
+  bad_counts = ltb 64 (bonds r) || leb (atoms r) (bonds r) || ltb (bonds r + 8) (atoms r)
 
   -- row 3: element code 0 or 255
   unfoldable pub bad_element : ℕ → Bool
@@ -69,18 +73,18 @@ module _ (r : Bytes) where
   unfoldable pub across : ℕ → ℕ → ℕ
   across s i = bit_or (elim (has s (end_a r i)) [ true ↦ 2 ^ end_b r i | false ↦ 0 ]) (elim (has s (end_b r i)) [ true ↦ 2 ^ end_a r i | false ↦ 0 ])
 
-  -- row 6: s with the atoms that f steps, each along a bond, reach from it
-  unfoldable pub walk : ℕ → ℕ → ℕ
-  walk zero s = s
-  walk (suc f) s = walk f (bit_or s (unions (across s) (members (all_bonds r))))
+  -- row 6: s with the atoms that f steps, each along a bond of b, reach from it
+  unfoldable pub walk : ℕ → ℕ → ℕ → ℕ
+  walk b zero s = s
+  walk b (suc f) s = walk b f (bit_or s (unions (across s) (members b)))
 
-  -- row 6: the atoms reached from atom 0
-  unfoldable pub reached : ℕ
-  reached = walk (atoms r) (2 ^ 0)
+  -- row 6: the atoms that walks along bonds of b reach from atom v
+  unfoldable pub reached : ℕ → ℕ → ℕ
+  reached b v = walk b (atoms r) (2 ^ v)
 
-  -- row 6: not reached from atom 0
-  unfoldable pub unreached : ℕ → Bool
-  unreached v = not (has reached v)
+  -- row 6 is a ring (document 02, 9/14): bond i closes one with lower bonds, along which a walk joins its ends
+  unfoldable pub closes : ℕ → Bool
+  closes i = has (reached (below i) (end_a r i)) (end_b r i)
 
   -- check's answer: the first of rows 1, 2, 3, 15, 4, 5 and 6 whose condition holds, else accepted
   unfoldable pub check : Answer
@@ -91,5 +95,5 @@ module _ (r : Bytes) where
       (row_at 15 bad_class (atoms r)
       (row_at 4 bad_code (bonds r)
       (row_at 5 bad_ends (bonds r)
-      (row_at 6 unreached (atoms r)
+      (row_at 6 closes (bonds r)
       accepted))))))

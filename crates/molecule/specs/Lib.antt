@@ -3,6 +3,7 @@ pub mod Lists
 pub mod Record
 pub mod Touch
 pub mod Check
+pub mod Count
 pub mod Verdict
 pub mod Connected
 pub mod Rounds

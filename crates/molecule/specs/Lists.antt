@@ -38,6 +38,11 @@ abbrev pub any : {A : Type 0} → (A → Bool) → List A → Bool
 any p [] = false
 any p (x ∷ xs) = pick (p x) true (any p xs)
 
+-- every element passes the test
+abbrev pub every : {A : Type 0} → (A → Bool) → List A → Bool
+every p [] = true
+every p (x ∷ xs) = pick (p x) (every p xs) false
+
 -- f over a list, from the first element on
 abbrev pub fold : {A B : Type 0} → (B → A → B) → B → List A → B
 fold f b [] = b

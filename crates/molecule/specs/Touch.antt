@@ -62,9 +62,9 @@ module _ (r : Bytes) where
   unfoldable pub connected : ℕ → Bool
   connected s = is_part touching s
 
-  -- for each of 65 atom numbers the bonds at it
+  -- for each of 72 atom numbers the bonds at it
   unfoldable pub bonds_at_words : List ℕ
-  bonds_at_words = list_from bonds_at 0 65
+  bonds_at_words = list_from bonds_at 0 72
 
   -- for each of 64 bond numbers the bonds that touch it, none where there is no such bond
   unfoldable pub touching_words : List ℕ

@@ -2,7 +2,7 @@
 use Rattle.std.specs.Prelude.{ℕ, Result, Ok, Err}
 use Rattle.molecule.specs.Check.{Answer, accepted, refused}
 use Rattle.molecule.specs.declared.Fault.{Fault}
-use Rattle.molecule.specs.declared.Fault.TheVariants.{Length, Counts, Element, Class, Code, Ends, Unreached}
+use Rattle.molecule.specs.declared.Fault.TheVariants.{Length, Counts, Element, Class, Code, Ends, Ring}
 
 -- the row's number
 abbrev pub number_of : Fault → ℕ
@@ -12,7 +12,7 @@ number_of (Element v) = 3
 number_of (Class v) = 15
 number_of (Code i) = 4
 number_of (Ends i) = 5
-number_of (Unreached v) = 6
+number_of (Ring i) = 6
 
 -- the row's place
 abbrev pub place_of : Fault → ℕ
@@ -22,7 +22,7 @@ place_of (Element v) = v
 place_of (Class v) = v
 place_of (Code i) = i
 place_of (Ends i) = i
-place_of (Unreached v) = v
+place_of (Ring i) = i
 
 -- the answer of document 01 that check's result is
 abbrev pub answer_of : Result (Unit {0}) Fault → Answer

@@ -11,11 +11,11 @@ use crate::fields;
 
 // The bonds at each atom. From here to touching_from a function takes the record's bytes: a Molecule is made of what these answer. A number is turned
 // by `as`, since usize and u32 or u64 have no From.
-pub fn bonds_at(bytes: &[u8]) -> [u64; 65]
+pub fn bonds_at(bytes: &[u8]) -> [u64; 72]
     requires { Formed bytes.now }
     ensures { result ≡ bonds_at_words bytes.now }
 {
-    let mut at = [0u64; 65];
+    let mut at = [0u64; 72];
     for i in 0..fields::bonds(bytes) {
         let (u, v) = fields::ends(bytes, i);
         let b = bitset::single(i as u32);
@@ -26,7 +26,7 @@ pub fn bonds_at(bytes: &[u8]) -> [u64; 65]
 }
 
 // The bonds that touch bond i.
-pub fn edge_neighbors(bytes: &[u8], at: &[u64; 65], i: usize) -> u64
+pub fn edge_neighbors(bytes: &[u8], at: &[u64; 72], i: usize) -> u64
     requires { Formed bytes.now × (at.now ≡ bonds_at_words bytes.now) × (i < bonds bytes.now) }
     ensures { result ≡ touching bytes.now i }
 {
@@ -35,7 +35,7 @@ pub fn edge_neighbors(bytes: &[u8], at: &[u64; 65], i: usize) -> u64
 }
 
 // For each bond the bonds that touch it, from the bonds at each atom.
-pub fn touching_from(bytes: &[u8], at: &[u64; 65]) -> [u64; 64]
+pub fn touching_from(bytes: &[u8], at: &[u64; 72]) -> [u64; 64]
     requires { Formed bytes.now × (at.now ≡ bonds_at_words bytes.now) }
     ensures { result ≡ touching_words bytes.now }
 {

@@ -1,5 +1,6 @@
 #![tactic(auto)]
-// Molecules without rings: the record of document 01 with the class bytes of document 02, check, and the graph of a record's bonds.
+// Molecules without rings, one or a mixture of several: the record of document 01 with the class bytes of document 02, check, and the graph
+// of a record's bonds.
 ghost use Rattle.std.specs.Prelude.{◌≡◌, ℕ, OnOk, OnErr};
 ghost use Rattle.molecule.specs.Tree.{RightCounts};
 ghost use Rattle.molecule.specs.Check.{check};
@@ -36,7 +37,7 @@ pub enum Fault {
     Class(usize),
     Code(usize),
     Ends(usize),
-    Unreached(usize),
+    Ring(usize),
 }
 
 impl Refusal for Fault {
@@ -54,7 +55,7 @@ impl Refusal for Fault {
             Fault::Class(_) => 15,
             Fault::Code(_) => 4,
             Fault::Ends(_) => 5,
-            Fault::Unreached(_) => 6,
+            Fault::Ring(_) => 6,
         }
     }
 
@@ -66,7 +67,7 @@ impl Refusal for Fault {
             | Fault::Class(p)
             | Fault::Code(p)
             | Fault::Ends(p)
-            | Fault::Unreached(p) => p as u64,
+            | Fault::Ring(p) => p as u64,
         }
     }
 }
@@ -85,7 +86,7 @@ fn check_counts(bytes: &[u8]) -> Result<(), Fault>
     if length != 2 + 2 * a + 3 * n {
         return Err(Fault::Length(length));
     }
-    if 64 < n || a != n + 1 {
+    if 64 < n || a <= n || n + 8 < a {
         return Err(Fault::Counts);
     }
     Ok(())
@@ -108,8 +109,8 @@ pub fn check(bytes: &[u8]) -> Result<(), Fault>
     if let Some(i) = rows::first_bad_ends(bytes) {
         return Err(Fault::Ends(i));
     }
-    if let Some(v) = rows::first_unreached(bytes) {
-        return Err(Fault::Unreached(v));
+    if let Some(i) = rows::first_ring(bytes) {
+        return Err(Fault::Ring(i));
     }
     Ok(())
 }

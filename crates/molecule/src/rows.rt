@@ -1,8 +1,9 @@
 // The scans of rows 3, 15, 4, 5 and 6: each answers the lowest number at fault, where there is one.
 // They take the bytes, and a clause that the counts are right, for the reason in fields.rt: check runs them before there is a Molecule.
-ghost use Rattle.std.specs.Prelude.{◌≡◌};
+ghost use Rattle.std.specs.Prelude.{◌≡◌, ◌<◌};
 ghost use Rattle.molecule.specs.Record.{atoms, bonds};
-ghost use Rattle.molecule.specs.Check.{wrong_byte, wrong_code, wrong_ends, bad_element, bad_class, bad_code, bad_ends, unreached};
+ghost use Rattle.molecule.specs.Touch.{bonds_at_words, touching_words};
+ghost use Rattle.molecule.specs.Check.{wrong_byte, wrong_code, wrong_ends, bad_element, bad_class, bad_code, bad_ends, closes};
 ghost use Rattle.molecule.specs.Inner.Finding.{IsLowest};
 ghost use Rattle.molecule.specs.Tree.{RightCounts, Formed};
 
@@ -70,14 +71,27 @@ pub fn first_bad_ends(bytes: &[u8]) -> Option<usize>
     })
 }
 
-// Row 6: the lowest atom that is not reached from atom 0: none of its bonds is reached from the bonds of atom 0.
-pub fn first_unreached(bytes: &[u8]) -> Option<usize>
+// Whether bond i closes a ring: of the lower bonds one at its second end is reached from those at its first. Mostly there is none at the second.
+fn closes_ring(bytes: &[u8], at: &[u64; 72], touch: &[u64; 64], i: usize) -> bool
+    requires { Formed bytes.now × (at.now ≡ bonds_at_words bytes.now) × (touch.now ≡ touching_words bytes.now) × (i < bonds bytes.now) }
+    ensures { result ≡ closes bytes.now i }
+{
+    let (u, v) = fields::ends(bytes, i);
+    let lower = bitset::first_n(i as u32);
+    let far = bitset::common(lower, at[v]);
+    if far == 0 {
+        return false;
+    }
+    let reached = graph::reach(touch, lower, bitset::common(lower, at[u]));
+    !bitset::is_disjoint(far, reached)
+}
+
+// Row 6: the lowest bond that closes a ring with lower bonds.
+pub fn first_ring(bytes: &[u8]) -> Option<usize>
     requires { Formed bytes.now }
-    ensures { IsLowest (unreached bytes.now) (atoms bytes.now) result }
+    ensures { IsLowest (closes bytes.now) (bonds bytes.now) result }
 {
     let at = graph::bonds_at(bytes);
     let touch = graph::touching_from(bytes, &at);
-    let all = bitset::first_n(fields::bonds(bytes) as u32);
-    let reached = graph::reach(&touch, all, at[0]);
-    (1..fields::atoms(bytes)).find(|v| bitset::is_disjoint(at[*v], reached))
+    (0..fields::bonds(bytes)).find(|i| closes_ring(bytes, &at, &touch, *i))
 }

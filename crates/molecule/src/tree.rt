@@ -1,4 +1,4 @@
-// An accepted record as a molecule.
+// An accepted record as a molecule, or as the molecules of a mixture.
 ghost use Rattle.std.specs.Prelude.{◌≡◌, ◌<◌, IfOk, IfErr};
 ghost use Rattle.molecule.specs.Record.{atoms, bonds, element, class, end_a, end_b, code};
 ghost use Rattle.molecule.specs.Touch.{bonds_at_words, touching_words};
@@ -11,7 +11,7 @@ use crate::{Fault, fields, graph};
 #[derive(Drop)]
 pub struct Molecule<'a> {
     pub bytes: &'a [u8],
-    pub at: [u64; 65],
+    pub at: [u64; 72],
     pub touch: [u64; 64],
     ghost accepted: { check bytes.now ≡ accepted },
     ghost bonds_at: { at ≡ bonds_at_words bytes.now },

@@ -1,12 +1,10 @@
 -- The search's definition one turn at a time: where entering a state leads, and what is found after each child. Assumes nothing, but where a state is entered that the record is accepted.
-use Rattle.std.proofs.Common.{Option, Some, Result, Ok, Err, ◌≡◌, refl, sym, ap, subst, ◌∙◌, ◌⊎◌, inl, inr, Bool, true, false, List, [], ◌∷◌, ℕ, zero, suc, ◌+◌, ◌-◌, ◌≤◌, ◌<◌, min, arith, ltb, leb, length, get_or, lt-ltb, le-ltb}
-use mathlib.Core.List.Memᴰ.{eq_of_singleton as mem_one}
+use Rattle.std.proofs.Common.{Option, Some, Result, Ok, Err, ◌≡◌, refl, sym, ap, subst, ◌∙◌, ◌⊎◌, inl, inr, Bool, true, false, List, [], ◌∷◌, ℕ, zero, suc, ◌+◌, ◌≤◌, ◌<◌, min, arith, ltb, leb, length, get_or, lt-ltb, le-ltb}
 use mathlib.Core.List.{Memᴰ as Mem}
 use Rattle.bitset.specs.Bits.{size}
 use Rattle.bitset.proofs.Bools.{two}
-use Rattle.bitset.proofs.Laws.{size_first}
 use Rattle.molecule.specs.Lists.{Bytes}
-use Rattle.molecule.specs.Record.{bonds, all_bonds}
+use Rattle.molecule.specs.Record.{bonds}
 use Rattle.molecule.specs.Check.{check, accepted}
 use Rattle.molecule.specs.Connected.{Connected}
 use Rattle.molecule.proofs.Lists.{at_mem}
@@ -20,10 +18,11 @@ use Rattle.search.specs.State.{State, root, removable, child, root_index}
 use Rattle.search.specs.Memo.{Entry, Memo, goes, stopped, full, remember, entry_of, key_of}
 use Rattle.search.specs.Search.{Run, Outcome, answers, halts, lower, int_stops, ask, tried, children, branch, counted, visit}
 use Rattle.search.specs.Inner.Claims.{Fine, held_of}
+use Rattle.search.proofs.Root.{root_is, root_few, root_size, root_index_most, no_index}
+use Rattle.search.proofs.Parts.{few}
 use Rattle.search.proofs.Starting.{run_at_root, search_lone, search_some}
 use Rattle.search.proofs.Least.{ask_off}
 use Rattle.search.proofs.Ends.{root_fine}
-use Rattle.molecule.proofs.Whole.{all_connected}
 use Rattle.state.specs.declared.State as code
 use Rattle.recurse.specs.declared.visit.Run as code_run
 use Rattle.recurse.specs.declared.visit.Gate.{Gate}
@@ -422,22 +421,26 @@ module _ (r : Bytes) (setting : Setting) (room : ℕ) (s : code.State) (run : co
 
 -- ---- the root
 
-module _ (r : Bytes) (ok : check r ≡ accepted) (one : 1 ≤ bonds r) (s : code.State) (e : state_of s ≡ root r (pairs r)) where
+module _ (r : Bytes) (ok : check r ≡ accepted) (s : code.State) (e : state_of s ≡ root r (pairs r)) where
   root_part : (p : ℕ) → Mem p (root r (pairs r)).pieces → Connected r p
   unfolding root
-  root_part p i = let q : p ≡ all_bonds r = mem_one i in rw q (all_connected r ok one)
+  root_part p i = (root_is r ok p i).0
 
   root_both : length (root r (pairs r)).pieces + length (root r (pairs r)).trail.numbers ≤ 32
   unfolding root
-  root_both = omega arith
+  root_both = omega (arith, root_few r ok)
 
   root_next : (root r (pairs r)).next ≡ 0
   unfolding root
   root_next = refl
 
-  root_sum : sum_of size (root r (pairs r)).pieces ≡ bonds r
+  root_sum : sum_of size (root r (pairs r)).pieces ≤ bonds r
   unfolding root
-  root_sum = omega (arith, size_first (bonds r))
+  root_sum = root_size r ok
+
+  root_best : s.index ≡ root_index r
+  unfolding root
+  root_best = ap (λ (x : State). x.index) e
 
   pub root_entered : Entered r s
   root_entered = record {
@@ -447,13 +450,18 @@ module _ (r : Bytes) (ok : check r ≡ accepted) (one : 1 ≤ bonds r) (s : code
     after = omega (arith, ap (λ (x : State). x.next) e, root_next);
   }
 
+  -- its index is one that 32 bits hold
+  pub root_low : s.index ≤ 64
+  root_low = omega (arith, root_best, root_index_most r ok, few r ok)
+
   -- a removal strikes two bonds at least, so the depth of the search is enough
-  pub root_found : (setting : Setting) (room n : ℕ) → bonds r ≡ n → (o : Result Found Halt) (words : List ℕ)
-      → Visited r setting room s (record { best = n - 1; states = 0; entries = 0 }) [] o words → Searches r setting room o words
-  root_found setting room n q o words w =
-      let h : sum_of size (state_of s).pieces ≡ bonds r = ap (λ (x : State). sum_of size x.pieces) e ∙ root_sum in
+  pub root_found : (setting : Setting) (room : ℕ) → 1 ≤ bonds r → (o : Result Found Halt) (words : List ℕ)
+      → Visited r setting room s (record { best = s.index; states = 0; entries = 0 }) [] o words → Searches r setting room o words
+  root_found setting room one o words w =
+      let h : sum_of size (state_of s).pieces ≤ bonds r = omega (arith, ap (λ (x : State). sum_of size x.pieces) e, root_sum) in
       rw (search_some r (pairs r) setting room one)
-      (subst (λ (x : State). Follows r (root_index r) o words (visit r (pairs r) setting room (bonds r) x (run_at_root r))) e (rw q (w n (omega arith) (omega arith))))
+      (subst (λ (x : State). Follows r (root_index r) o words (visit r (pairs r) setting room (bonds r) x (run_at_root r))) e
+      (subst (λ (b : ℕ). Follows r b o words (visit r (pairs r) setting room (bonds r) (state_of s) (record { best = b; states = 0; memo = [] }))) root_best (w (bonds r) h one)))
 
 -- without bonds no state is entered
 pub lone_found : (r : Bytes) → bonds r ≡ 0 → (setting : Setting) (room : ℕ) (o : Found) (words : List ℕ) → found_as o [] ≡ answers 0 no_removal (record { best = 0; states = 0; memo = [] })
@@ -463,7 +471,7 @@ lone_found r lone setting room o words e w =
     rw (search_lone r (pairs r) setting room lone)
     (record {
       memo = [];
-      is = ap (λ (n : ℕ). answers 0 no_removal (record { best = n - 1; states = 0; memo = [] })) lone ∙ sym e;
+      is = ap (λ (n : ℕ). answers 0 no_removal (record { best = n; states = 0; memo = [] })) (no_index r lone) ∙ sym e;
       low = omega (arith, ap (λ (x : Run). x.best) run);
       stored = w;
     })

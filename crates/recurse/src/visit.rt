@@ -191,7 +191,7 @@ fn nothing_entered() -> Found
     }
 }
 
-// The search of a molecule of n bonds, from the root and with best n - 1.
+// The search of a record of n bonds, from the root and with best its index.
 #[tactic(auto, using(search::proofs::Parts::few))]
 pub fn search(
     searched: &Searched,
@@ -206,9 +206,9 @@ pub fn search(
     if n == 0 {
         return Ok(nothing_entered());
     }
-    let s = state::root(n);
+    let s = state::root(&searched.molecule.touch, n);
     let run = Run {
-        best: n as u32 - 1,
+        best: s.index,
         states: 0,
         entries: 0,
     };

@@ -11,9 +11,8 @@ use Prim.Native.Nat.{ℕ, zero, suc, ◌+◌, ◌^◌, ◌≤◌, ◌<◌}
 use native.Mathlib.Omega.{arith}
 use lib.Bits.{bit_or}
 use lib.ListN.{length, get_or, take, drop, length-map}
-use Rattle.std.proofs.lemmas.List.{nil_from_length}
 use Rattle.bitset.specs.Bits.{Sub, diff, size, members, low}
-use Rattle.bitset.proofs.Laws.{size_one, size_mono, size_empty, sub_trans, members_size, diff_diff}
+use Rattle.bitset.proofs.Laws.{size_one, sub_trans, members_size, diff_diff}
 use Rattle.bitset.proofs.Members.{diff_sub}
 use Rattle.bitset.proofs.Decide.{sets, v, less, or, none, is, sub}
 use Rattle.molecule.specs.Lists.{Bytes, first}
@@ -57,14 +56,6 @@ module _ (r : Bytes) where
   grown_length p h l =
       let q : ℕ = diff p (2 ^ low p) in
       omega (arith, assemble_length (2 ^ low p) (map (λ b. 2 ^ b) (members q)), length-map (members q) (λ b. 2 ^ b), members_size q 0, low_less p h l)
-
-  -- an empty one needs none
-  pub grown_none : (p : ℕ) → p ≡ 0 → grown r p ≡ []
-  unfolding grown
-  grown_none p e =
-      let q : ℕ = diff p (2 ^ low p) in
-      nil_from_length (grown r p)
-      (omega (arith, assemble_length (2 ^ low p) (map (λ b. 2 ^ b) (members q)), length-map (members q) (λ b. 2 ^ b), members_size q 0, size_mono q p (diff_sub p (2 ^ low p)), ap size e, size_empty))
 
   -- ---- joins that put p together from s on
 

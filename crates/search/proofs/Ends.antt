@@ -12,7 +12,6 @@ use lib.Dec.{ltb}
 use lib.ListN.{length, length-append}
 use Rattle.bitset.specs.Bits.{size}
 use Rattle.bitset.proofs.Bools.{two}
-use Rattle.bitset.proofs.Laws.{size_first}
 use Rattle.molecule.specs.Lists.{Bytes}
 use Rattle.molecule.specs.Record.{bonds, all_bonds}
 use Rattle.molecule.specs.Check.{accepted, check}
@@ -30,17 +29,13 @@ use Rattle.search.specs.State.{State, root, big_components, removable, mask_of, 
 use Rattle.search.specs.Memo.{Memo, goes, stopped, full}
 use Rattle.search.specs.Search.{Run, Outcome, answers, halts, lower, int_stops, ask, tried, children, branch, counted, visit, search}
 use Rattle.search.specs.Inner.Claims.{Removable, Inv, Fine, held_of, Ends}
-use Rattle.search.proofs.Lists.{sum_flat}
+use Rattle.search.proofs.Lists.{sum_flat, count_two}
 use Rattle.search.proofs.Parts.{big_size, big_less}
+use Rattle.search.proofs.Root.{root_size, root_less, root_widest}
 use Rattle.search.proofs.Refine.{and_within, remove_first}
 use Rattle.search.proofs.TrailClaim.{tried_removable}
 use Rattle.search.proofs.Least.{ask_off, child_step, child_inv, root_inv}
 use Rattle.search.proofs.Starting.{run_at_root, by_bonds}
-
--- pieces of two bonds or more are at most half as many as their bonds
-pub count_two : (P : List ℕ) → ((p : ℕ) → Mem p P → 2 ≤ size p) → 2 * length P ≤ sum_of size P
-count_two [] h = omega arith
-count_two (p ∷ P) h = omega (arith, h p (m_head refl), count_two P (λ q i. h q (m_tail i)))
 
 -- ---- letting go
 
@@ -83,7 +78,7 @@ module _ (r : Bytes) (ok : check r ≡ accepted) (ms : List Pair) (M : Laws r ms
   -- the root is fine
   pub root_fine : Fine r ms (root r ms)
   unfolding root
-  root_fine = let z = size_first (bonds r) in record { inv = root_inv r ok ms M; weight = omega arith; covered = omega arith; exact = omega arith; widest = (all_bonds r, m_head refl, z) }
+  root_fine = record { inv = root_inv r ok ms M; weight = omega (arith, root_size r ok); covered = omega (arith, root_less r ok); exact = omega arith; widest = root_widest r ok }
 
   module _ (s : State) (m : ℕ) (F : Fine r ms s) (k : Removable ms s.pieces s.next m) where
     -- and so is a child of a fine state
@@ -102,7 +97,7 @@ module _ (r : Bytes) (ok : check r ≡ accepted) (ms : List Pair) (M : Laws r ms
           weight = omega (arith, length-append s.trail.numbers (m ∷ []));
           covered = omega (arith, size_of_first ms m);
           exact = omega (arith, size_of_first ms m, sum_append (λ (m : ℕ). size_of ms m - 1) s.trail.numbers (m ∷ []));
-          widest = ((pair ms m).h1, remove_first r ms (held_of r ms s) m, size_of_first ms m);
+          widest = λ l. ((pair ms m).h1, remove_first r ms (held_of r ms s) m, size_of_first ms m);
         }
 
     -- a child has at most n / 2 pieces
@@ -175,4 +170,4 @@ module _ (r : Bytes) (ok : check r ≡ accepted) (ms : List Pair) (M : Laws r ms
     unfolding root
     search_ends =
         by_bonds r ms setting room (Ends setting) (λ none. tt)
-        (λ some. visit_ends (bonds r) (root r ms) (run_at_root r) (root_inv r ok ms M) (omega (arith, size_first (bonds r))) some)
+        (λ some. visit_ends (bonds r) (root r ms) (run_at_root r) (root_inv r ok ms M) (omega (arith, root_size r ok)) some)

@@ -16,9 +16,9 @@ use Rattle.molecule.specs.Lists.{Bytes}
 use Rattle.molecule.specs.Record.{bonds, all_bonds}
 use Rattle.molecule.specs.Check.{accepted, check}
 use Rattle.molecule.proofs.Perms.{keep_intro}
-use Rattle.matches.specs.Table.{Pair, size_of}
+use Rattle.matches.specs.Table.{Pair, pair, size_of}
 use Rattle.matches.specs.Laws.{Laws}
-use Rattle.matches.proofs.Laws.{size_of_two, size_of_half}
+use Rattle.matches.proofs.Laws.{size_of_first, size_of_two}
 use Rattle.bounds.specs.Numbers.{max_of, ceil_log2}
 use Rattle.bounds.specs.Bounds.{int_bound, usable_edges_bound, least_size}
 use Rattle.bounds.specs.Inner.Removals.{Step}
@@ -26,14 +26,15 @@ use Rattle.bounds.proofs.Steps.{step_apart}
 use Rattle.bounds.proofs.Bounds.{below_least}
 use Rattle.search.specs.Setting.{Setting, has_int, has_matchable_edges, has_memo}
 use Rattle.search.specs.Trail.{Trail}
-use Rattle.search.specs.State.{State, root, removable, mask_of, remove, child}
+use Rattle.search.specs.State.{State, root_pieces, root, removable, mask_of, remove, child}
 use Rattle.search.specs.Memo.{Entry, goes}
 use Rattle.search.specs.Search.{Run, Outcome, answers, halts, lower, int_stops, ask, tried, children, branch, counted, visit, search}
 use Rattle.search.specs.Series.{allowed, series_score, IsLeastScore}
 use Rattle.search.specs.Series.{saved}
 use Rattle.search.specs.Inner.Claims.{Removable, Allows, Inv, held_of, Holds, Bounded}
 use Rattle.search.proofs.Lists.{refines_within}
-use Rattle.search.proofs.Refine.{one_apart, mem_removable, allowed_allows, keep_refines, letting_go}
+use Rattle.search.proofs.Root.{root_apart, root_most}
+use Rattle.search.proofs.Refine.{mem_removable, allowed_allows, keep_refines, letting_go}
 use Rattle.search.proofs.TrailClaim.{holds_at, tried_removable, child_within, root_within, visit_answers, search_trail}
 use Rattle.search.proofs.Bridge.{removal, keep_apart, remove_step, int_holds, usable_holds}
 use Rattle.search.proofs.Starting.{run_at_root, by_bonds}
@@ -86,9 +87,9 @@ module _ (r : Bytes) (ok : check r ≡ accepted) (ms : List Pair) (M : Laws r ms
   pub root_inv : Inv r ms (root r ms)
   unfolding root
   root_inv = record {
-    apart = one_apart (all_bonds r);
+    apart = root_apart r ok;
     within = root_within r ok ms;
-    most = λ m l i. omega (arith, size_of_half r ms M m i);
+    most = λ m l i. let t = M.twins m i in omega (arith, root_most r ok (pair ms m).h1 t.one t.one_own, size_of_first ms m);
   }
 
   -- a child's claim, by the state's own index
@@ -250,7 +251,7 @@ module _ (r : Bytes) (ok : check r ≡ accepted) (ms : List Pair) (M : Laws r ms
           entered some e τ h =
               let b = visit_bounded (bonds r) (root r ms) (run_at_root r) a t run root_inv e in
               let c = (visit_answers r ok ms setting room (bonds r) (root r ms) (run_at_root r) a t run (root_within r ok ms) e).1 in
-              omega (arith, b.least τ (allowed_allows r ms 0 (all_bonds r ∷ []) τ h), c)
+              omega (arith, b.least τ (allowed_allows r ms 0 (root_pieces r) τ h), c)
 
       -- so the index is the least score, and the trail is a series that has it
       pub search_is_least : (a : ℕ) (t : Trail) (run : Run) → search r ms setting room ≡ answers a t run → IsLeastScore r ms a

@@ -15,7 +15,7 @@ use Prim.Native.Nat.{ℕ, zero, suc, ◌≤◌, min}
 use native.Mathlib.Omega.{arith}
 use native.Mathlib.Decide.{dec_le}
 use Rattle.bitset.specs.Bits.{size}
-use Rattle.bitset.proofs.Laws.{size_mono, size_first}
+use Rattle.bitset.proofs.Laws.{size_mono}
 use Rattle.molecule.specs.Lists.{Bytes}
 use Rattle.molecule.specs.Record.{bonds, all_bonds}
 use Rattle.molecule.specs.Check.{accepted, check}
@@ -28,12 +28,13 @@ use Rattle.bounds.proofs.Numbers.{mem_sum}
 use Rattle.bounds.proofs.Steps.{step_apart, step_falls}
 use Rattle.search.specs.Setting.{Setting, has_memo}
 use Rattle.search.specs.Trail.{Trail}
-use Rattle.search.specs.State.{removable, remove, root_index}
+use Rattle.search.specs.State.{removable, remove, root_index, root_pieces}
 use Rattle.search.specs.Search.{Run, answers, search}
 use Rattle.search.specs.Series.{allowed, allowed_from, series_score, series_from, all_series, least_of, least_score, IsLeastScore}
 use Rattle.search.specs.Inner.Claims.{Allows}
 use Rattle.search.proofs.Lists.{flat_mem, mem_flat}
-use Rattle.search.proofs.Refine.{one_within, one_apart, removable_mem, mem_removable, allowed_allows, allows_allowed, remove_within}
+use Rattle.search.proofs.Root.{pieces_within, root_apart, root_size}
+use Rattle.search.proofs.Refine.{removable_mem, mem_removable, allowed_allows, allows_allowed, remove_within}
 use Rattle.search.proofs.TrailClaim.{search_trail}
 use Rattle.search.proofs.Bridge.{remove_step}
 use Rattle.search.proofs.Least.{search_is_least}
@@ -104,7 +105,7 @@ module _ (r : Bytes) (ok : check r ≡ accepted) (ms : List Pair) (M : Laws r ms
   pub allowed_listed : (τ : List ℕ) → allowed r ms τ ≡ true → Mem τ (all_series r ms)
   unfolding all_series allowed
   allowed_listed τ h =
-      allows_listed (bonds r) 0 (all_bonds r ∷ []) τ (one_apart (all_bonds r)) (one_within (all_bonds r)) (omega (arith, size_first (bonds r))) (allowed_allows r ms 0 (all_bonds r ∷ []) τ h)
+      allows_listed (bonds r) 0 (root_pieces r) τ (root_apart r ok) (pieces_within r ok) (root_size r ok) (allowed_allows r ms 0 (root_pieces r) τ h)
 
   -- the least score that computes is the least score in words: no allowed series scores less, and one scores that
   pub least_score_lem : IsLeastScore r ms (least_score r ms)
@@ -116,7 +117,7 @@ module _ (r : Bytes) (ok : check r ≡ accepted) (ms : List Pair) (M : Laws r ms
 
       go : (least_score r ms ≡ root_index r) ⊎ ((τ : List ℕ) × Mem τ (all_series r ms) × (series_score r ms τ ≡ least_score r ms)) → IsLeastScore r ms (least_score r ms)
       go (inl e) = record { least = below; series = []; is_allowed = unfold allowed_from in refl; scores = unfold series_score in (omega arith) }
-      go (inr w) = record { least = below; series = w.0; is_allowed = allows_allowed r ms 0 (all_bonds r ∷ []) w.0 (listed_allows r ms (bonds r) 0 (all_bonds r ∷ []) w.0 w.1); scores = w.2 }
+      go (inr w) = record { least = below; series = w.0; is_allowed = allows_allowed r ms 0 (root_pieces r) w.0 (listed_allows r ms (bonds r) 0 (root_pieces r) w.0 w.1); scores = w.2 }
 
   -- and there is only one
   pub least_is_lem : (k : ℕ) → IsLeastScore r ms k → least_score r ms ≡ k

@@ -1,7 +1,8 @@
 -- The theory of the search. Score has what demand 3 claims of an answer, Pathways that the joins of an allowed series are a pathway,
--- Fewest that no pathway has fewer joins than the least score; Lone what holds of a lone atom; Ends and Numbers have what code asks of a state.
+-- Fewest that no pathway has fewer joins than the least score; Lone what holds where no tree has two bonds, OneTree that one tree is as document 01 says; Ends and Numbers have what code asks of a state.
 pub mod Lists
 pub mod Parts
+pub mod Root
 pub mod Refine
 pub mod Starting
 pub mod TrailClaim
@@ -16,12 +17,13 @@ pub mod Covers
 pub mod Tests
 pub mod Fragments
 pub mod Building
-pub mod Lone
 pub mod Rebuilding
 pub mod Pathways
 pub mod Making
+pub mod Lone
 pub mod Striking
 pub mod Owing
 pub mod Fewest
 pub mod Score
 pub mod Reading
+pub mod OneTree

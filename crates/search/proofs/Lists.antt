@@ -11,20 +11,21 @@ use mathlib.Core.List.Memᴰ.{head as m_head}
 use mathlib.Core.List.Memᴰ.{not-nil}
 use mathlib.Core.List.Memᴰ.{tail as m_tail}
 use mathlib.Core.List.{List, [], ◌∷◌, ◌++◌, map, flat_map, Memᴰ as Mem}
-use Prim.Native.Nat.{ℕ, ◌+◌, ◌≤◌}
+use Prim.Native.Nat.{ℕ, ◌+◌, ◌-◌, ◌*◌, ◌≤◌}
 use native.Mathlib.Omega.{arith}
 use lib.Bits.{bit_and}
 use lib.Dec.{leb}
+use lib.ListN.{length}
 use borrow.Author.Tests.{eqb-true, eq-eqb, leb-true, leb-false, le-leb}
-use Rattle.bitset.specs.Bits.{Sub, Disjoint, is_sub}
+use Rattle.bitset.specs.Bits.{Sub, Disjoint, is_sub, size, diff}
 use Rattle.bitset.proofs.Bools.{two}
-use Rattle.bitset.proofs.Laws.{sub_trans}
+use Rattle.bitset.proofs.Laws.{sub_trans, size_empty, size_minus}
 use Rattle.bitset.proofs.Decide.{sets, v, sub, apart}
 use Rattle.molecule.specs.Lists.{filter, sort_by}
 use Rattle.molecule.specs.Connected.{Apart}
 use Rattle.molecule.proofs.Lists.{any_some, any_none, Ordered, ordered_by, sort_ordered}
 use Rattle.bounds.specs.Numbers.{sum_of}
-use Rattle.bounds.specs.Inner.Removals.{InOnePiece, PiecesWithin}
+use Rattle.bounds.specs.Inner.Removals.{big, Split, InOnePiece, PiecesWithin}
 use Rattle.bounds.proofs.Numbers.{sum_append}
 use Rattle.bounds.proofs.Steps.{apart_append}
 use Rattle.search.specs.State.{inside}
@@ -99,6 +100,26 @@ pub sum_flat : (f : ℕ → ℕ) (g : ℕ → List ℕ) (P : List ℕ) → ((p :
 unfolding flat_map
 sum_flat f g [] h = omega arith
 sum_flat f g (p ∷ P) h = omega (arith, sum_append f (g p) (flat_map g P), h p (m_head refl), sum_flat f g P (λ q i. h q (m_tail i)))
+
+-- single bonds add nothing to the sum of size less one
+pub sum_big : (l : List ℕ) → sum_of (λ (p : ℕ). size p - 1) (big l) ≡ sum_of (λ (p : ℕ). size p - 1) l
+sum_big [] = refl
+sum_big (x ∷ l) = go (two (leb 2 (size x))) (sum_big l)
+  where
+    go : (leb 2 (size x) ≡ true) ⊎ (leb 2 (size x) ≡ false) → sum_of (λ (p : ℕ). size p - 1) (big l) ≡ sum_of (λ (p : ℕ). size p - 1) l
+        → sum_of (λ (p : ℕ). size p - 1) (big (x ∷ l)) ≡ sum_of (λ (p : ℕ). size p - 1) (x ∷ l)
+    go (inl e) ih = rw e (omega arith)
+    go (inr e) ih = rw e (omega (arith, leb-false 2 (size x) e))
+
+-- pieces of two bonds or more are at most half as many as their bonds
+pub count_two : (P : List ℕ) → ((p : ℕ) → Mem p P → 2 ≤ size p) → 2 * length P ≤ sum_of size P
+count_two [] h = omega arith
+count_two (p ∷ P) h = omega (arith, h p (m_head refl), count_two P (λ q i. h q (m_tail i)))
+
+-- the parts that a set falls into have as many bonds as it, and so many less with one bond less of each
+pub split_count : (l : List ℕ) (s : ℕ) → Split s l → sum_of (λ (p : ℕ). size p - 1) l + length l ≡ size s
+split_count [] s h = rw h (sym size_empty)
+split_count (a ∷ l) s h = omega (arith, split_count l (diff s a) h.2, size_minus s a h.1, h.0)
 
 -- a sum of what a list is mapped to
 pub sum_map : (f g : ℕ → ℕ) (l : List ℕ) → sum_of f (map g l) ≡ sum_of (λ x. f (g x)) l

@@ -7,7 +7,6 @@ use Prim.Native.Nat.{ℕ, suc, ◌+◌, ◌*◌, ◌≤◌, ◌<◌, min}
 use native.Mathlib.Omega.{arith}
 use lib.ListN.{length}
 use Rattle.bitset.specs.Bits.{size}
-use Rattle.bitset.proofs.Laws.{size_first}
 use Rattle.molecule.specs.Lists.{Bytes}
 use Rattle.molecule.specs.Record.{bonds, all_bonds}
 use Rattle.molecule.specs.Check.{accepted, check}
@@ -21,18 +20,19 @@ use Rattle.bounds.proofs.Numbers.{mem_sum}
 use Rattle.bounds.proofs.ChainLaws.{log_bound}
 use Rattle.bounds.proofs.Steps.{step_apart, step_falls, series_less}
 use Rattle.bounds.proofs.Bounds.{int_whole, int_le, usable_le}
-use Rattle.search.specs.State.{State, removable, mask_of, remove, root_index}
+use Rattle.search.specs.State.{State, removable, mask_of, remove, root_index, root_pieces}
 use Rattle.search.specs.Series.{allowed, series_score}
 use Rattle.search.specs.Series.{saved}
 use Rattle.search.specs.Inner.Claims.{Allows, Fine}
 use Rattle.search.proofs.Parts.{few}
-use Rattle.search.proofs.Refine.{one_within, one_apart, allowed_allows, remove_first, remove_within, mask_within}
+use Rattle.search.proofs.Root.{pieces_within, root_apart, root_size, root_less}
+use Rattle.search.proofs.Refine.{allowed_allows, remove_first, remove_within, mask_within}
 use Rattle.search.proofs.Bridge.{remove_step, series_of, saved_is}
 
 module _ (r : Bytes) (ms : List Pair) (s : State) (F : Fine r ms s) where
   -- Int's subtractions are not cut short
   pub int_no_cut : (t : ℕ) → 2 ≤ t → t ≤ s.largest → ceil_log2 t + sum_of (λ (p : ℕ). ceil_div (size p) t) s.pieces ≤ sum_of size s.pieces
-  int_no_cut t two l = let w = F.widest in int_whole ceil_log2 log_bound s.pieces w.0 t w.1 two (omega (arith, w.2))
+  int_no_cut t two l = let w = F.widest (omega arith) in int_whole ceil_log2 log_bound s.pieces w.0 t w.1 two (omega (arith, w.2))
 
   -- J is not above the index
   pub int_below : int_bound ceil_log2 s.pieces s.largest ≤ s.index
@@ -65,7 +65,7 @@ module _ (r : Bytes) (ok : check r ≡ accepted) (ms : List Pair) (M : Laws r ms
   allowed_counts : (τ : List ℕ) → allowed r ms τ ≡ true → 2 * length τ + min 2 (bonds r) ≤ bonds r
   unfolding allowed
   allowed_counts τ h =
-      omega (arith, allows_length 0 (all_bonds r ∷ []) τ (one_apart (all_bonds r)) (one_within (all_bonds r)) (allowed_allows r ms 0 (all_bonds r ∷ []) τ h), size_first (bonds r))
+      omega (arith, allows_length 0 (root_pieces r) τ (root_apart r ok) (pieces_within r ok) (allowed_allows r ms 0 (root_pieces r) τ h), root_size r ok)
 
   -- an allowed series has at most n / 2 removals
   pub allowed_length : (τ : List ℕ) → allowed r ms τ ≡ true → 2 * length τ ≤ bonds r
@@ -79,5 +79,5 @@ module _ (r : Bytes) (ok : check r ≡ accepted) (ms : List Pair) (M : Laws r ms
   pub series_exact : (τ : List ℕ) → allowed r ms τ ≡ true → series_score r ms τ + saved ms τ ≡ root_index r
   unfolding allowed series_score
   series_exact τ h =
-      let s = series_less (series_of r ok ms M 0 (all_bonds r ∷ []) τ (one_apart (all_bonds r)) (one_within (all_bonds r)) (allowed_allows r ms 0 (all_bonds r ∷ []) τ h)) in
-      omega (arith, saved_is ms τ, size_first (bonds r))
+      let s = series_less (series_of r ok ms M 0 (root_pieces r) τ (root_apart r ok) (pieces_within r ok) (allowed_allows r ms 0 (root_pieces r) τ h)) in
+      omega (arith, saved_is ms τ, root_less r ok)

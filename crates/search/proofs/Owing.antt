@@ -13,8 +13,8 @@
 --    sides of a join are smaller than its union; they have the labels of D and of the halves; and their matches are numbered after those that were removed.
 -- 4. The removals save what cs cost, and c costs one join more than its halves, for the one set or more that L has lost.
 use mathlib.Core.Path.{◌≡◌, refl, sym, ◌∙◌}
-use mathlib.Core.Logic.{◌⊎◌, inl, inr, ⊎_elim}
-use mathlib.Core.Bool.{true, false}
+use mathlib.Core.Logic.{inl, inr, ⊎_elim}
+use mathlib.Core.Bool.{true}
 use mathlib.Core.List.Memᴰ.{append_cases as mem_cases}
 use mathlib.Core.List.Memᴰ.{cases_cons as mem_cons}
 use mathlib.Core.List.Memᴰ.{eq_of_singleton as mem_one}
@@ -29,9 +29,8 @@ use Prim.Native.Nat.{ℕ, zero, suc, ◌+◌, ◌-◌, ◌≤◌, ◌<◌}
 use native.Mathlib.Omega.{arith}
 use lib.ListN.{length}
 use lib.Dec.{leb}
-use borrow.Author.Tests.{leb-true, leb-false}
+use borrow.Author.Tests.{leb-true}
 use Rattle.bitset.specs.Bits.{Sub, Disjoint, size}
-use Rattle.bitset.proofs.Bools.{two}
 use Rattle.bitset.proofs.Laws.{sub_trans}
 use Rattle.molecule.specs.Lists.{Bytes, filter, sort_by}
 use Rattle.molecule.specs.Record.{all_bonds}
@@ -50,18 +49,9 @@ use Rattle.bounds.proofs.Numbers.{sum_append, sum_perm}
 use Rattle.bounds.proofs.Steps.{apart_sub, apart_sym, apart_append, apart_perm, apart_big}
 use Rattle.search.specs.Pathway.{union}
 use Rattle.search.specs.Inner.Joining.{HasLabel, Ready, Made}
-use Rattle.search.proofs.Lists.{apart_left, apart_right, apart_across, two_apart, down, sorted_down}
+use Rattle.search.proofs.Lists.{sum_big, apart_left, apart_right, apart_across, two_apart, down, sorted_down}
 use Rattle.search.proofs.Making.{some_size, join_falls, label_akin, ready_before, made_before}
 use Rattle.search.proofs.Striking.{cost, Saves, Late, Stage, strike}
-
--- single bonds cost nothing
-big_cost : (l : List ℕ) → cost l ≤ cost (big l)
-big_cost [] = omega arith
-big_cost (x ∷ l) = go (two (leb 2 (size x))) (big_cost l)
-  where
-    go : (leb 2 (size x) ≡ true) ⊎ (leb 2 (size x) ≡ false) → cost l ≤ cost (big l) → cost (x ∷ l) ≤ cost (big (x ∷ l))
-    go (inl e) h = rw e (omega arith)
-    go (inr e) h = rw e (omega (arith, leb-false 2 (size x) e))
 
 module _ (r : Bytes) where
   -- x is a fragment of two bonds or more inside a piece of P, with the label of a set of L
@@ -257,7 +247,7 @@ module _ (r : Bytes) where
             these_apart.1 order.1 (λ b i j m. from j m.0 m.1) in
             let f : ℕ → ℕ = λ z. size z - 1 in
             let all : cost Q ≡ cost D + ((size c - 1) + cost cs) = sum_perm f perm ∙ sum_append f D (c ∷ cs) in
-            let parts : (size x - 1) + ((size y - 1) + 0) + cost D ≤ cost (new ++ D) = omega (arith, big_cost (x ∷ y ∷ []), sum_append f new D) in
+            let parts : (size x - 1) + ((size y - 1) + 0) + cost D ≤ cost (new ++ D) = omega (arith, sum_big (x ∷ y ∷ []), sum_append f new D) in
             (w.0, w.1, omega (arith, w.2, all, parts, halves.sizes, some_size r x halves.left.whole, some_size r y halves.right.whole, fewer))
 
       -- the fragments that do not come strictly before q, by falling numbers of their nodes; q is among them

@@ -1,5 +1,5 @@
 -- The joins of an allowed series are a pathway, with exactly as many joins as the series scores (demand 3). Upper crates cite the last section, which assumes only that the record is accepted.
--- The sections before it assume 64 bonds or fewer, of the matches that their fragments are twins (M1), and from the root on that all bonds are connected.
+-- The sections before it assume 64 bonds or fewer, and of the matches that their fragments are twins (M1).
 use mathlib.Core.Path.{◌≡◌, refl, sym, ap, subst, ◌∙◌}
 use mathlib.Core.Bool.{true, false, ◌&&◌}
 use mathlib.Core.Logic.{◌⊎◌, inl, inr, ◌≢◌, ⊎_elim}
@@ -10,42 +10,43 @@ use mathlib.Core.List.Memᴰ.{eq_of_singleton as mem_only}
 use mathlib.Core.List.{List, [], ◌∷◌, ◌++◌, flat_map, Memᴰ as Mem}
 use Prim.Native.Nat.{ℕ, suc, ◌+◌, ◌-◌, ◌^◌, ◌≤◌, ◌<◌}
 use native.Mathlib.Omega.{arith}
-use lib.Bits.{bit_and, and_self}
+use lib.Bits.{bit_and}
 use lib.Dec.{eqb, ltb, leb}
 use lib.Pow.{pow_pos}
 use lib.ListN.{length, length-append}
-use borrow.Author.Tests.{eqb-true, eqb-false, eq-eqb, ltb-true, leb-true, leb-false}
+use borrow.Author.Tests.{eqb-true, eqb-false, eq-eqb, ltb-true, le-leb}
 use Rattle.bitset.specs.Bits.{Sub, Disjoint, is_sub, diff, size, low}
-use Rattle.bitset.proofs.Bools.{two, or_left, or_right, and_true}
+use Rattle.bitset.proofs.Bools.{two, and_true}
 use Rattle.bitset.proofs.Laws.{size_minus, size_one, size_first, sub_trans}
 use Rattle.bitset.proofs.Decide.{sets, v, none, is, sub, apart}
 use Rattle.molecule.specs.Lists.{Bytes}
-use Rattle.molecule.specs.Record.{bonds, all_bonds}
+use Rattle.molecule.specs.Record.{bonds, all_bonds, atoms}
 use Rattle.molecule.specs.Check.{accepted, check}
 use Rattle.molecule.specs.Touch.{components}
-use Rattle.molecule.specs.Connected.{Connected}
+use Rattle.molecule.specs.Connected.{Own}
 use Rattle.molecule.specs.Examples.{chain}
 use Rattle.molecule.proofs.Lists.{any_some}
-use Rattle.molecule.proofs.Components.{own_all}
-use Rattle.molecule.proofs.Accepted.{accepted_formed}
+use Rattle.molecule.proofs.Components.{own_all, components_connected}
 use Rattle.molecule.proofs.Perms.{keep_mem}
 use Rattle.bounds.specs.Numbers.{sum_of}
 use Rattle.matches.specs.Table.{Pair, pair, size_of, pairs}
 use Rattle.matches.specs.Laws.{Twins}
 use Rattle.matches.proofs.Laws.{table_laws, size_of_first}
-use Rattle.search.specs.State.{struck, inside, big_components, remove}
+use Rattle.search.specs.State.{struck, inside, big_components, remove, bond_trees, root_pieces}
 use Rattle.search.specs.Series.{allowed_from, allowed, series_score, IsLeastScore}
-use Rattle.search.specs.Pathway.{Join, find, assemble, grown, split, rebuilt, joins_from, joins, is_pathway_after, is_pathway, HasPathway}
-use Rattle.search.specs.Inner.Joining.{MembersIn, after, Ready, EndsWith, Built, Pieces, Done}
+use Rattle.search.specs.Pathway.{Join, find, assemble, grown, split, rebuilt, joins_from, joins, is_pathway, HasPathway, whole_made, complete}
+use Rattle.search.specs.Inner.Joining.{MembersIn, after, Ready, EndsWith, Built, Pieces, Done, HasLabel}
 use Rattle.search.specs.Examples.{compute}
-use Rattle.search.proofs.Covers.{cover_mem, cover_apart, flat_mem, mem_flat, less_self}
-use Rattle.search.proofs.Tests.{and_both, any_has, any_find, after_append, joins_append, ends_append, joins_test}
-use Rattle.molecule.proofs.Whole.{all_connected}
+use Rattle.search.proofs.Covers.{cover_mem, cover_apart, flat_mem, mem_flat}
+use Rattle.search.proofs.Tests.{any_has, any_find, after_append, joins_append, ends_append, joins_test, complete_one, complete_more, trees_test}
 use Rattle.search.proofs.Building.{grown_builds}
 use Rattle.search.proofs.Rebuilding.{grown_done, split_pieces, one_built, one_done, two_done, one_count, two_count}
-use native.Mathlib.Decide.{dec_le}
+use native.Mathlib.Decide.{dec_le, ℕ_discrete}
 use Rattle.std.proofs.lemmas.List.{nil_from_length}
-use Rattle.search.proofs.Lone.{lone_series, lone_series_score, lone_pathway, lone_joins}
+use Rattle.search.proofs.Parts.{few}
+use Rattle.search.proofs.Fragments.{components_cover}
+use Rattle.search.proofs.Root.{root_is, root_count, root_index_most, one_trees, one_piece}
+use mathlib.Core.List.Memᴰ.{head as m_head}
 
 -- the piece that a fragment is in
 abbrev piece_of : List ℕ → ℕ → ℕ
@@ -174,103 +175,117 @@ module _ (r : Bytes) (ms : List Pair) where
           omega (arith, z, t.same_size, t.big, length-append js ks, ih.1, d.1, size_minus w h2 s2),
         )
 
-    -- ---- from the root
-
-    module _ (whole : Connected r (all_bonds r)) where
-      -- all bonds as one piece
-      root_pieces : Pieces r (all_bonds r) (all_bonds r ∷ [])
-      root_pieces = record {
-        own = omega (arith, pow_pos (bonds r));
-        cover = (and_self (all_bonds r), less_self (all_bonds r));
-        each = λ x m. subst (Connected r) (sym (mem_only m)) whole;
-      }
-
-      -- the series from the root on
-      root_done : (τ : List ℕ) → allowed r ms τ ≡ true
-          → Done r [] (all_bonds r ∷ []) (joins r ms τ) × (length (joins r ms τ) + sum_of (λ m. size_of ms m - 1) τ + 1 ≡ bonds r)
-      unfolding joins allowed
-      root_done τ e =
-          let d = series_done τ 0 (all_bonds r ∷ []) (all_bonds r ∷ []) [] (all_bonds r) root_pieces (λ x m. m) e in
-          (d.0, d.1 ∙ size_first (bonds r))
-
-      -- exactly as many joins as the score: the saving is taken from the bonds less one
-      joins_length : (τ : List ℕ) → allowed r ms τ ≡ true → length (joins r ms τ) ≡ series_score r ms τ
-      unfolding series_score
-      joins_length τ e = omega (arith, (root_done τ e).1)
-
-      -- where the start is not all bonds, the last union is
-      ends_all : (made : List ℕ) (js : List Join) (s : ℕ) → Built r made js s (all_bonds r) → s ≢ all_bonds r → EndsWith r made js (all_bonds r)
-      ends_all made js s b ne = ⊎_elim (λ (e : (after made js ≡ made) × (s ≡ all_bonds r)). absurd (ne e.1)) (λ (w : EndsWith r made js (all_bonds r)). w) b.ends
-
-      -- h1 is not all bonds, since h2 lies outside it
-      not_all : (h1 h2 : ℕ) → Twins r h1 h2 → h1 ≢ all_bonds r
-      not_all h1 h2 t e =
-          let d : Disjoint (all_bonds r) h2 = subst (λ (k : ℕ). Disjoint k h2) e t.apart in
-          t.other.some (sets (apart (v 0) (v 1) ∷ sub (v 1) (v 0) ∷ []) (is (v 1) none) (all_bonds r ∷ h2 ∷ []) tt d (own_all r h2 t.other_own))
-
-      -- the last union is all bonds, where there are two or more: the growing does not start with all of them, and neither does the undoing of the first removal
-      root_ends : (τ : List ℕ) → allowed r ms τ ≡ true → 2 ≤ bonds r → EndsWith r [] (joins r ms τ) (all_bonds r)
-      unfolding joins allowed joins_from flat_map split struck
-      root_ends [] e n =
-          let a : ℕ = all_bonds r in
-          ends_append r [] (grown r a) [] a (ends_all [] (grown r a) (2 ^ low a) (grown_builds r few [] a root_pieces.own whole)
-          (λ q. let z : size (2 ^ low a) ≡ size a = ap size q in absurd (omega (arith, z, size_one (low a), size_first (bonds r)))))
-      root_ends (m ∷ τ) e n =
-          let h1 : ℕ = (pair ms m).h1 in
-          let h2 : ℕ = (pair ms m).h2 in
-          let big : List ℕ = all_bonds r ∷ [] in
-          let a : First m big τ = allowed_first 0 m big τ e in
-          let t : Twins r h1 h2 = twins m a.known in
-          let f1 : Located big h1 = located big big h1 (λ x k. k) a.in1 in
-          let f2 : Located big h2 = located big big h2 (λ x k. k) a.in2 in
-          let e1 : piece_of big h1 ≡ all_bonds r = mem_only f1.0 in
-          let e2 : piece_of big h2 ≡ all_bonds r = mem_only f2.0 in
-          let js : List Join = joins_from r ms (split r ms big m) τ in
-          let ks : List Join = rebuilt r ms big m in
-          let h' : Pieces r (diff (all_bonds r) h2) (split r ms big m) = split_pieces r few h1 h2 t (all_bonds r) big root_pieces (own_all r h1 t.one_own) in
-          let ih = series_done τ (suc m) (remove r ms big m) (split r ms big m) [] (diff (all_bonds r) h2) h' (remove_within big big m (λ x k. k)) a.further in
-          let s2 : Sub h2 (piece_of big h1) = subst (Sub h2) (e2 ∙ sym e1) f2.1 in
-          let b : Built r (after [] js) ks h1 (piece_of big h1) =
-          subst (λ (k : List Join). Built r (after [] js) k h1 (piece_of big h1)) (sym (rebuilt_one big m (eq-eqb (piece_of big h1) (piece_of big h2) (e1 ∙ sym e2))))
-          (one_built r few h1 h2 t (all_bonds r) big (after [] js) root_pieces ih.0.all (piece_of big h1) f1.0 f1.1 s2) in
-          ends_append r [] js ks (all_bonds r) (ends_all (after [] js) ks h1 (subst (Built r (after [] js) ks h1) e1 b) (not_all h1 h2 t))
-
-      -- the joins pass the test: one bond has none; of more the last union is all bonds
-      joins_pathway : (τ : List ℕ) → allowed r ms τ ≡ true → is_pathway r (joins r ms τ) ≡ true
-      unfolding is_pathway
-      joins_pathway τ e = go (two (leb (bonds r) 1))
-        where
-          go : (leb (bonds r) 1 ≡ true) ⊎ (leb (bonds r) 1 ≡ false) → is_pathway r (joins r ms τ) ≡ true
-          go (inl q) = or_left (leb (bonds r) 1 && eqb (length (joins r ms τ)) 0) (is_pathway_after r [] (joins r ms τ))
-              (and_both q (eq-eqb (length (joins r ms τ)) 0 (omega (arith, (root_done τ e).1, leb-true (bonds r) 1 q))))
-          go (inr q) =
-              or_right (leb (bonds r) 1 && eqb (length (joins r ms τ)) 0) (is_pathway_after r [] (joins r ms τ))
-              (joins_test r few [] (joins r ms τ) (root_done τ e).0.lawful (root_ends τ e (leb-false (bonds r) 1 q)))
-
 -- ---- demand 3: a record that check accepts, its own matches, an allowed series
 
 module _ (r : Bytes) (ok : check r ≡ accepted) where
-  -- 64 bonds or fewer
-  few : bonds r ≤ 64
-  few = (accepted_formed r ok).sized.few
+  abbrev ms : List Pair
+  ms = pairs r
 
-  -- the joins of an allowed series are a pathway.
-  -- Pieces that are ready are put together into those of the state before, from the last state back to the root: each part is a single bond, or made, or has h1's label;
-  -- some part always meets what is there, since a piece is connected; and all bonds of an accepted record are
-  pub series_pathway : (τ : List ℕ) → allowed r (pairs r) τ ≡ true → is_pathway r (joins r (pairs r) τ) ≡ true
-  series_pathway τ e = go (dec_le 1 (bonds r))
-    where
-      go : Dec (1 ≤ bonds r) → is_pathway r (joins r (pairs r) τ) ≡ true
-      go (yes some) = joins_pathway r (pairs r) few (table_laws r ok).twins (all_connected r ok some) τ e
-      go (no h) = let lone : bonds r ≡ 0 = omega arith in rw (lone_series r ok lone τ e, lone_joins r ok lone) (lone_pathway r ok lone)
+  twins : (m : ℕ) → m < length ms → Twins r (pair ms m).h1 (pair ms m).h2
+  twins = (table_laws r ok).twins
+
+  own : Own r (all_bonds r)
+  own = omega (arith, pow_pos (bonds r))
+
+  -- ---- from the root
+
+  -- the trees that have bonds are the pieces, single bonds too
+  tree_pieces : Pieces r (all_bonds r) (bond_trees r)
+  tree_pieces = record {
+    own = own;
+    cover = components_cover r (few r ok) (all_bonds r) own;
+    each = λ x m. (components_connected r (few r ok) (all_bonds r) own x m).0;
+  }
+
+  root_trees : MembersIn (root_pieces r) (bond_trees r)
+  unfolding big_components
+  root_trees x i = (keep_mem (λ c. leb 2 (size c)) (bond_trees r) i).0
+
+  -- the series from the root on
+  root_done : (τ : List ℕ) → allowed r ms τ ≡ true
+      → Done r [] (bond_trees r) (joins r ms τ) × (length (joins r ms τ) + sum_of (λ m. size_of ms m - 1) τ + length (bond_trees r) ≡ bonds r)
+  unfolding joins allowed
+  root_done τ e =
+      let d = series_done r ms (few r ok) twins τ 0 (root_pieces r) (bond_trees r) [] (all_bonds r) tree_pieces root_trees e in
+      (d.0, d.1 ∙ size_first (bonds r))
 
   -- they are exactly as many as the series scores: to grow a piece takes one join less than it has bonds, and a match of k bonds is made once for twice, which saves k − 1
   pub series_length : (τ : List ℕ) → allowed r (pairs r) τ ≡ true → length (joins r (pairs r) τ) ≡ series_score r (pairs r) τ
-  series_length τ e = go (dec_le 1 (bonds r))
+  unfolding series_score
+  series_length τ e = omega (arith, (root_done τ e).1, root_count r ok)
+
+  -- after them every tree of two or more bonds has the label of a union
+  trees_labelled : (τ : List ℕ) → allowed r ms τ ≡ true → (x : ℕ) → Mem x (root_pieces r) → HasLabel r (after [] (joins r ms τ)) x
+  trees_labelled τ e x i = go ((root_done τ e).0.all x (root_trees x i))
     where
-      go : Dec (1 ≤ bonds r) → length (joins r (pairs r) τ) ≡ series_score r (pairs r) τ
-      go (yes some) = joins_length r (pairs r) few (table_laws r ok).twins (all_connected r ok some) τ e
-      go (no h) = let lone : bonds r ≡ 0 = omega arith in rw (lone_series r ok lone τ e, lone_joins r ok lone) (sym (lone_series_score r ok lone))
+      go : Ready r (after [] (joins r ms τ)) x → HasLabel r (after [] (joins r ms τ)) x
+      go (inl q) = absurd (omega (arith, (root_is r ok x i).2))
+      go (inr w) = w
+
+  -- ---- one tree
+
+  -- where the start is not all bonds, the last union is
+  ends_all : (made : List ℕ) (js : List Join) (s : ℕ) → Built r made js s (all_bonds r) → s ≢ all_bonds r → EndsWith r made js (all_bonds r)
+  ends_all made js s b ne = ⊎_elim (λ (e : (after made js ≡ made) × (s ≡ all_bonds r)). absurd (ne e.1)) (λ (w : EndsWith r made js (all_bonds r)). w) b.ends
+
+  -- h1 is not all bonds, since h2 lies outside it
+  not_all : (h1 h2 : ℕ) → Twins r h1 h2 → h1 ≢ all_bonds r
+  not_all h1 h2 t e =
+      let d : Disjoint (all_bonds r) h2 = subst (λ (k : ℕ). Disjoint k h2) e t.apart in
+      t.other.some (sets (apart (v 0) (v 1) ∷ sub (v 1) (v 0) ∷ []) (is (v 1) none) (all_bonds r ∷ h2 ∷ []) tt d (own_all r h2 t.other_own))
+
+  -- from all bonds as one piece, the last union is all bonds where there are two or more: the growing does not start with all of them, and neither does the undoing of the first removal
+  one_ends : Pieces r (all_bonds r) (all_bonds r ∷ []) → 2 ≤ bonds r → (τ : List ℕ) → allowed_from r ms 0 (all_bonds r ∷ []) τ ≡ true → EndsWith r [] (joins_from r ms (all_bonds r ∷ []) τ) (all_bonds r)
+  unfolding joins_from flat_map split struck
+  one_ends one n [] e =
+      let a : ℕ = all_bonds r in
+      ends_append r [] (grown r a) [] a (ends_all [] (grown r a) (2 ^ low a) (grown_builds r (few r ok) [] a own (one.each a (m_head refl)))
+      (λ q. let z : size (2 ^ low a) ≡ size a = ap size q in absurd (omega (arith, z, size_one (low a), size_first (bonds r)))))
+  one_ends one n (m ∷ τ) e =
+      let h1 : ℕ = (pair ms m).h1 in
+      let h2 : ℕ = (pair ms m).h2 in
+      let big : List ℕ = all_bonds r ∷ [] in
+      let a : First r ms m big τ = allowed_first r ms 0 m big τ e in
+      let t : Twins r h1 h2 = twins m a.known in
+      let f1 : Located big h1 = located big big h1 (λ x k. k) a.in1 in
+      let f2 : Located big h2 = located big big h2 (λ x k. k) a.in2 in
+      let e1 : piece_of big h1 ≡ all_bonds r = mem_only f1.0 in
+      let e2 : piece_of big h2 ≡ all_bonds r = mem_only f2.0 in
+      let js : List Join = joins_from r ms (split r ms big m) τ in
+      let ks : List Join = rebuilt r ms big m in
+      let h' : Pieces r (diff (all_bonds r) h2) (split r ms big m) = split_pieces r (few r ok) h1 h2 t (all_bonds r) big one (own_all r h1 t.one_own) in
+      let ih = series_done r ms (few r ok) twins τ (suc m) (remove r ms big m) (split r ms big m) [] (diff (all_bonds r) h2) h' (remove_within r ms big big m (λ x k. k)) a.further in
+      let s2 : Sub h2 (piece_of big h1) = subst (Sub h2) (e2 ∙ sym e1) f2.1 in
+      let b : Built r (after [] js) ks h1 (piece_of big h1) =
+      subst (λ (k : List Join). Built r (after [] js) k h1 (piece_of big h1)) (sym (rebuilt_one r ms big m (eq-eqb (piece_of big h1) (piece_of big h2) (e1 ∙ sym e2))))
+      (one_built r (few r ok) h1 h2 t (all_bonds r) big (after [] js) one ih.0.all (piece_of big h1) f1.0 f1.1 s2) in
+      ends_append r [] js ks (all_bonds r) (ends_all (after [] js) ks h1 (subst (Built r (after [] js) ks h1) e1 b) (not_all h1 h2 t))
+
+  -- the whole is made: up to one bond there is no join, and of more the last union is all bonds
+  one_whole : atoms r ≡ bonds r + 1 → (τ : List ℕ) → allowed r ms τ ≡ true → whole_made r (after [] (joins r ms τ)) ≡ true
+  unfolding joins allowed whole_made
+  one_whole one τ e = go (dec_le 2 (bonds r))
+    where
+      go : Dec (2 ≤ bonds r) → whole_made r (after [] (joins r ms τ)) ≡ true
+      go (yes n) =
+          let t : bond_trees r ≡ all_bonds r ∷ [] = one_trees r ok one (omega arith) in
+          let w : EndsWith r [] (joins_from r ms (bond_trees r) τ) (all_bonds r) = rw t (one_ends (rw t at tree_pieces) n τ (rw (one_piece r ok one n) at e)) in
+          rw w.1 (eq-eqb (all_bonds r) (all_bonds r) refl)
+      go (no n) = rw (nil_from_length (joins r ms τ) (omega (arith, (root_done τ e).1, root_count r ok, root_index_most r ok))) (le-leb (bonds r) 1 (omega arith))
+
+  -- ---- so the joins of an allowed series are a pathway.
+  -- Pieces that are ready are put together into those of the state before, from the last state back to the root: each part is a single bond, or made, or has h1's label;
+  -- some part always meets what is there, since a piece is connected; and the trees are
+  pub series_pathway : (τ : List ℕ) → allowed r (pairs r) τ ≡ true → is_pathway r (joins r (pairs r) τ) ≡ true
+  unfolding is_pathway
+  series_pathway τ e = joins_test r (few r ok) [] (joins r ms τ) (root_done τ e).0.lawful (go (ℕ_discrete (atoms r) (bonds r + 1)))
+    where
+      made : List ℕ
+      made = after [] (joins r ms τ)
+
+      go : Dec (atoms r ≡ bonds r + 1) → complete r made ≡ true
+      go (yes one) = complete_one r made one ∙ one_whole one τ e
+      go (no more) = complete_more r made more ∙ trees_test r made (trees_labelled τ e)
 
   -- so a pathway with exactly that many joins ends in the molecule
   pub series_has : (τ : List ℕ) → allowed r (pairs r) τ ≡ true → HasPathway r (series_score r (pairs r) τ)
@@ -279,11 +294,6 @@ module _ (r : Bytes) (ok : check r ≡ accepted) where
   -- and one with as many as the least score
   pub least_has : (k : ℕ) → IsLeastScore r (pairs r) k → HasPathway r k
   least_has k h = subst (HasPathway r) h.scores (series_has h.series h.is_allowed)
-
-  -- one bond needs no join, and neither does a lone atom
-  pub one_bond : bonds r ≤ 1 → joins r (pairs r) [] ≡ []
-  unfolding allowed allowed_from series_score
-  one_bond e = nil_from_length (joins r (pairs r) []) (omega (arith, series_length [] refl))
 
 -- ---- worked: the chain of 4 with match 0 has a pathway of 2 joins, the chain of 7 with matches 6 and 8 one of 4
 

@@ -1,15 +1,14 @@
 -- Records that read alike have one search, one least score, the same pathways, one answer of score and one assembly index.
 -- Of accepted records, and the laws of the matches: every piece is a fragment then, so that its label and what it falls into are the same of both.
 use mathlib.Core.Path.{◌≡◌, refl, sym, ap, ap₂, ◌∙◌}
-use mathlib.Core.Bool.{Bool, true, false, ◌&&◌, ◌||◌}
+use mathlib.Core.Bool.{true, false}
 use mathlib.Core.Logic.{◌⊎◌, inl, inr, ◌↔◌, ⊎_elim}
 use mathlib.Core.List.Memᴰ.{cases_cons as mem_cons}
-use mathlib.Core.List.Memᴰ.{eq_of_singleton as mem_one}
 use mathlib.Core.List.Memᴰ.{head as m_head}
 use mathlib.Core.List.Memᴰ.{not-nil}
 use mathlib.Core.List.Memᴰ.{tail as m_tail}
 use mathlib.Core.List.{List, [], ◌∷◌, ◌++◌, map, Memᴰ as Mem}
-use Prim.Native.Nat.{ℕ, zero, suc, ◌-◌, ◌^◌, ◌<◌, min, ◌≤◌}
+use Prim.Native.Nat.{ℕ, zero, suc, ◌-◌, ◌^◌, ◌<◌, min, ◌≤◌, ◌+◌}
 use native.Mathlib.Omega.{arith}
 use lib.Bits.{bit_and}
 use lib.Dec.{leb, ltb, eqb}
@@ -20,7 +19,7 @@ use Rattle.bitset.proofs.Bools.{two}
 use Rattle.bitset.proofs.Laws.{member_lt}
 use Rattle.bitset.proofs.Members.{diff_sub}
 use Rattle.molecule.specs.Lists.{Bytes, filter}
-use Rattle.molecule.specs.Record.{bonds, all_bonds}
+use Rattle.molecule.specs.Record.{bonds, all_bonds, atoms}
 use Rattle.molecule.specs.Check.{accepted, refused, check}
 use Rattle.molecule.specs.Connected.{Own, Connected}
 use Rattle.molecule.specs.Unmarked.{HasUnmarkedLength, natural}
@@ -28,7 +27,6 @@ use Rattle.molecule.proofs.Components.{own_sub, own_all}
 use Rattle.molecule.proofs.Graphs.{own_alike, components_alike, fragment_alike}
 use Rattle.molecule.proofs.Perms.{bool_iff, map_agree}
 use Rattle.molecule.proofs.Touching.{Share}
-use Rattle.molecule.proofs.Whole.{all_connected}
 use Rattle.canonize.specs.Strings.{sort}
 use Rattle.canonize.specs.Label.{label}
 use Rattle.canonize.specs.Unmarked.{ReadsUnmarked}
@@ -41,24 +39,27 @@ use Rattle.matches.proofs.Laws.{table_laws, read_back, unmarked_alike, match_tab
 use Rattle.bounds.specs.Inner.Removals.{PiecesWithin}
 use Rattle.search.specs.Setting.{Setting, Room, has_memo, memo_room}
 use Rattle.search.specs.Trail.{Trail, no_removal}
-use Rattle.search.specs.State.{State, struck, root, big_components, removable, mask_of, keep, remove, child, root_index}
+use Rattle.search.specs.State.{State, struck, root, big_components, removable, mask_of, keep, remove, child, root_index, root_pieces, bond_trees}
 use Rattle.search.specs.Memo.{Entry, Memo, goes, stopped, full, remember, key_of, entry_of}
 use Rattle.search.specs.Search.{Run, Outcome, answers, halts, lower, int_stops, ask, tried, children, branch, counted, visit, search}
 use Rattle.search.specs.Series.{saved, series_score, series_from, all_series, least_of, least_score}
-use Rattle.search.specs.Pathway.{Join, union, is_pathway_after, is_pathway, IsFewest}
+use Rattle.search.specs.Pathway.{Join, union, is_pathway, IsFewest, complete, whole_made}
 use Rattle.search.specs.Answer.{entry_answer, turned_back, searched, score_answer}
 use Rattle.search.specs.Inner.Claims.{held_of}
-use Rattle.search.specs.Inner.Joining.{Ready, JoinAfter, JoinsAfter}
+use Rattle.search.specs.Inner.Joining.{Ready, JoinAfter, JoinsAfter, HasLabel, after}
 use Rattle.search.proofs.Lists.{flat_same}
 use Rattle.search.proofs.Parts.{few}
 use Rattle.search.proofs.Refine.{and_left, removable_mem, remove_fragments, keep_fragments}
 use Rattle.search.proofs.TrailClaim.{tried_removable}
-use Rattle.search.proofs.Tests.{joins_test, joins_of}
+use Rattle.search.proofs.Tests.{joins_test, joins_of, complete_one, complete_more, trees_of, trees_test}
 use Rattle.search.proofs.Fragments.{meets_in, meets_has}
-use Rattle.search.proofs.Making.{join_falls}
+use Rattle.search.proofs.Making.{join_falls, joins_made, made_fragment}
 use Rattle.search.proofs.Fewest.{least_is_fewest, fewest_is}
 use Rattle.search.proofs.Starting.{run_at_root, by_bonds, lone, search_lone, search_some}
-use native.Mathlib.Decide.{dec_le}
+use native.Mathlib.Decide.{ℕ_discrete}
+use Rattle.molecule.specs.Touch.{components}
+use Rattle.bounds.specs.Numbers.{sum_of, max_of}
+use Rattle.search.proofs.Root.{pieces_own}
 
 -- each is a fragment of the record
 abbrev Fragments : Bytes → List ℕ → Type 0
@@ -86,11 +87,19 @@ module _ (r : Bytes) (ok : check r ≡ accepted) (ms : List Pair) (M : Laws r ms
   unfolding child
   child_fragments s held m = left_fragments held m
 
-  all_fragments : 1 ≤ bonds r → Fragments r (all_bonds r ∷ [])
-  all_fragments some p i = let e : p ≡ all_bonds r = mem_one i in rw e (omega (arith, pow_pos (bonds r)), all_connected r ok some)
-
   module _ (q : Bytes) (alike : ReadAlike r q) where
     -- ---- states
+
+    -- the same trees
+    trees_alike : bond_trees r ≡ bond_trees q
+    trees_alike = components_alike r q alike.graph (few r ok) (all_bonds r) (omega (arith, pow_pos (bonds r))) ∙ ap (λ (n : ℕ). components q (2 ^ n - 1)) alike.graph.count
+
+    index_alike : root_index r ≡ root_index q
+    index_alike = ap (sum_of (λ (t : ℕ). size t - 1)) trees_alike
+
+    pub root_alike : root_pieces r ≡ root_pieces q
+    unfolding big_components
+    root_alike = ap (filter (λ c. leb 2 (size c))) trees_alike
 
     big_alike : (s : ℕ) → Own r s → big_components r s ≡ big_components q s
     unfolding big_components
@@ -187,16 +196,20 @@ module _ (r : Bytes) (ok : check r ≡ accepted) (ms : List Pair) (M : Laws r ms
 
       -- every state is entered with the same pieces and the same run, and answers the same
       pub search_alike : search r ms setting room ≡ search q ms setting room
-      unfolding root
+      unfolding root big_components
       search_alike = by_bonds r ms setting room (λ o. o ≡ search q ms setting room) (λ none. sym (search_lone q ms setting room (omega (arith, alike.graph.count)) ∙ no_state)) entered
         where
           no_state : lone q ms setting room ≡ lone r ms setting room
-          no_state = ap (λ (n : ℕ). answers 0 no_removal (record { best = n - 1; states = 0; memo = [] })) (sym alike.graph.count)
+          no_state = ap (λ (n : ℕ). answers 0 no_removal (record { best = n; states = 0; memo = [] })) (sym index_alike)
+
+          -- the root with these trees
+          at_root : List ℕ → State
+          at_root l = record { pieces = filter (λ c. leb 2 (size c)) l; index = sum_of (λ (t : ℕ). size t - 1) l; largest = max_of size l; next = 0; trail = no_removal }
 
           entered : 1 ≤ bonds r → visit r ms setting room (bonds r) (root r ms) (run_at_root r) ≡ search q ms setting room
           entered some =
-              visit_alike (bonds r) (root r ms) (all_fragments some) (run_at_root r)
-              ∙ ap (λ (n : ℕ). visit q ms setting room n (record { pieces = (2 ^ n - 1) ∷ []; index = n - 1; largest = n; next = 0; trail = no_removal }) (record { best = n - 1; states = 0; memo = [] })) alike.graph.count
+              visit_alike (bonds r) (root r ms) (pieces_own r ok) (run_at_root r)
+              ∙ ap₂ (λ (n : ℕ) (l : List ℕ). visit q ms setting room n (at_root l) (record { best = sum_of (λ (t : ℕ). size t - 1) l; states = 0; memo = [] })) alike.graph.count trees_alike
               ∙ sym (search_some q ms setting room (omega (arith, alike.graph.count)))
 
     -- ---- allowed series
@@ -212,22 +225,20 @@ module _ (r : Bytes) (ok : check r ≡ accepted) (ms : List Pair) (M : Laws r ms
 
     -- the same series are allowed
     pub all_series_alike : all_series r ms ≡ all_series q ms
-    unfolding all_series series_from
-    all_series_alike = go (dec_le 1 (bonds r)) ∙ ap (λ (n : ℕ). series_from q ms n 0 ((2 ^ n - 1) ∷ [])) alike.graph.count
-      where
-        go : Dec (1 ≤ bonds r) → series_from r ms (bonds r) 0 (all_bonds r ∷ []) ≡ series_from q ms (bonds r) 0 (all_bonds r ∷ [])
-        go (yes some) = series_from_alike (bonds r) 0 (all_bonds r ∷ []) (all_fragments some)
-        go (no h) = let none : bonds r ≡ 0 = omega arith in rw (none, series_from) refl
+    unfolding all_series
+    all_series_alike =
+        series_from_alike (bonds r) 0 (root_pieces r) (pieces_own r ok)
+        ∙ ap₂ (λ (n : ℕ) (P : List ℕ). series_from q ms n 0 P) alike.graph.count root_alike
 
     least_of_alike : (k : ℕ) (l : List (List ℕ)) → least_of r ms k l ≡ least_of q ms k l
     unfolding least_of series_score
     least_of_alike k [] = refl
-    least_of_alike k (τ ∷ l) = least_of_alike (min k (root_index r - saved ms τ)) l ∙ ap (λ (n : ℕ). least_of q ms (min k (n - 1 - saved ms τ)) l) alike.graph.count
+    least_of_alike k (τ ∷ l) = least_of_alike (min k (root_index r - saved ms τ)) l ∙ ap (λ (n : ℕ). least_of q ms (min k (n - saved ms τ)) l) index_alike
 
     -- and their least score is the same
     pub least_score_alike : least_score r ms ≡ least_score q ms
     unfolding least_score
-    least_score_alike = least_of_alike (root_index r) (all_series r ms) ∙ ap₂ (λ (n : ℕ) (l : List (List ℕ)). least_of q ms (n - 1) l) alike.graph.count all_series_alike
+    least_score_alike = least_of_alike (root_index r) (all_series r ms) ∙ ap₂ (least_of q ms) index_alike all_series_alike
 
 module _ (r q : Bytes) (ok : check r ≡ accepted) (ok' : check q ≡ accepted) (alike : ReadAlike r q) where
   -- ---- pathways
@@ -235,9 +246,12 @@ module _ (r q : Bytes) (ok : check r ≡ accepted) (ok' : check q ≡ accepted) 
   share_alike : (i j : ℕ) → i < bonds r → j < bonds r → Share r i j → Share q i j
   share_alike i j k l h = rw (sym (alike.graph.first_ends i k), sym (alike.graph.second_ends i k), sym (alike.graph.first_ends j l), sym (alike.graph.second_ends j l)) h
 
+  label_alike : (made : List ℕ) (s : ℕ) → Fragments r made → Own r s → Connected r s → HasLabel r made s → HasLabel q made s
+  label_alike made s F o k w = let f = F w.0 w.1 in (w.0, w.1, sym (alike.labels w.0 f.0 f.1) ∙ w.2 ∙ alike.labels s o k)
+
   ready_alike : (made : List ℕ) (s : ℕ) → Fragments r made → Own r s → Connected r s → Ready r made s → Ready q made s
   ready_alike made s F o k (inl e) = inl e
-  ready_alike made s F o k (inr w) = let f = F w.0 w.1 in inr (w.0, w.1, sym (alike.labels w.0 f.0 f.1) ∙ w.2 ∙ alike.labels s o k)
+  ready_alike made s F o k (inr w) = inr (label_alike made s F o k w)
 
   join_alike : (made : List ℕ) (j : Join) → Fragments r made → JoinAfter r made j → JoinAfter q made j
   join_alike made j F h =
@@ -259,18 +273,34 @@ module _ (r q : Bytes) (ok : check r ≡ accepted) (ok' : check q ≡ accepted) 
       let w = join_falls r made j a.0 in
       (join_alike made j F a.0, joins_alike (union j ∷ made) js (λ x i. ⊎_elim (λ (e : x ≡ union j). rw e (w.own, w.whole)) (λ (m : Mem x made). F x m) (mem_cons i)) a.1)
 
-  pathway_passes : (js : List Join) → is_pathway_after r [] js ≡ true → is_pathway_after q [] js ≡ true
-  pathway_passes js e =
+  -- what is to be made is, of as many atoms
+  complete_alike : atoms r ≡ atoms q → (made : List ℕ) → Fragments r made → complete r made ≡ true → complete q made ≡ true
+  unfolding whole_made
+  complete_alike n made F e = go (ℕ_discrete (atoms r) (bonds r + 1))
+    where
+      whole : (made : List ℕ) → whole_made r made ≡ whole_made q made
+      whole [] = ap (λ (n : ℕ). leb n 1) alike.graph.count
+      whole (u ∷ made) = ap (λ (n : ℕ). eqb u (2 ^ n - 1)) alike.graph.count
+
+      go : Dec (atoms r ≡ bonds r + 1) → complete q made ≡ true
+      go (yes one) = complete_one q made (omega (arith, alike.graph.count)) ∙ sym (whole made) ∙ sym (complete_one r made one) ∙ e
+      go (no more) =
+          let h : (x : ℕ) → Mem x (root_pieces r) → HasLabel q made x =
+          λ x i. let f = pieces_own r ok x i in label_alike made x F f.0 f.1 (trees_of r made (sym (complete_more r made more) ∙ e) x i) in
+          complete_more q made (λ one. more (omega (arith, alike.graph.count)))
+          ∙ trees_test q made (rw (root_alike r ok (pairs r) (table_laws r ok) q alike) at h)
+
+  pathway_passes : atoms r ≡ atoms q → (js : List Join) → is_pathway r js ≡ true → is_pathway q js ≡ true
+  unfolding is_pathway
+  pathway_passes n js e =
       let w = joins_of r (few r ok) [] js e in
-      joins_test q (few q ok') [] js (joins_alike [] js (λ x i. absurd (not-nil i)) w.0) (w.1.0, w.1.1 ∙ ap (λ (n : ℕ). (2 ^ n - 1) ∷ w.1.0) alike.graph.count)
+      let F : Fragments r (after [] js) = λ x i. let f = made_fragment r (after [] js) x (joins_made r [] js (λ u k. absurd (not-nil k)) w.0 x i) in (f.0, f.1) in
+      joins_test q (few q ok') [] js (joins_alike [] js (λ x i. absurd (not-nil i)) w.0) (complete_alike n (after [] js) F w.1)
 
 module _ (r q : Bytes) (ok : check r ≡ accepted) (ok' : check q ≡ accepted) (alike : ReadAlike r q) where
-  -- the same lists of joins are pathways
-  pub is_pathway_alike : (js : List Join) → is_pathway r js ≡ is_pathway q js
-  unfolding is_pathway
-  is_pathway_alike js =
-      ap₂ (λ (n : ℕ) (b : Bool). (leb n 1 && eqb (length js) 0) || b) alike.graph.count
-      (bool_iff (is_pathway_after r [] js) (is_pathway_after q [] js) (pathway_passes r q ok ok' alike js) (pathway_passes q r ok' ok (read_back r q alike (few r ok)) js))
+  -- the same lists of joins are pathways, where there are as many atoms, and so as many trees
+  pub is_pathway_alike : atoms r ≡ atoms q → (js : List Join) → is_pathway r js ≡ is_pathway q js
+  is_pathway_alike n js = bool_iff (is_pathway r js) (is_pathway q js) (pathway_passes r q ok ok' alike n js) (pathway_passes q r ok' ok (read_back r q alike (few r ok)) (sym n) js)
 
   -- ---- score
 

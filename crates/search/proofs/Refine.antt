@@ -26,7 +26,7 @@ use Rattle.bitset.proofs.Decide.{sets, v, and, less, or, sub, apart}
 use Rattle.molecule.specs.Lists.{Bytes, numbers_from, filter}
 use Rattle.molecule.specs.Record.{all_bonds}
 use Rattle.molecule.specs.Check.{accepted, check}
-use Rattle.molecule.specs.Connected.{Own, Connected, Apart}
+use Rattle.molecule.specs.Connected.{Own, Connected}
 use Rattle.molecule.proofs.Components.{all_own}
 use Rattle.molecule.proofs.Perms.{keep_mem, keep_intro}
 use Rattle.molecule.proofs.Lists.{numbers_bounds, numbers_mem}
@@ -71,13 +71,6 @@ first_struck ms m = sets [] (sub (v 0) (or (v 0) (v 1))) ((pair ms m).h1 ∷ (pa
 pub second_struck : (ms : List Pair) (m : ℕ) → Sub (pair ms m).h2 (struck ms m)
 unfolding struck
 second_struck ms m = sets [] (sub (v 1) (or (v 0) (v 1))) ((pair ms m).h1 ∷ (pair ms m).h2 ∷ []) tt
-
--- one piece lies in itself, and is apart
-pub one_within : (U : ℕ) → PiecesWithin U (U ∷ [])
-one_within U p i = let e : p ≡ U = mem_one i in rw e (and_self U)
-
-pub one_apart : (U : ℕ) → Apart (U ∷ [])
-one_apart U = (λ q i. absurd (not-nil i), tt)
 
 both_true : (a b : Bool) → a ≡ true → b ≡ true → (a && b) ≡ true
 both_true a b e f = rw (e, f)

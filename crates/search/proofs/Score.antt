@@ -4,7 +4,7 @@ use mathlib.Core.Path.{◌≡◌, refl, sym, ap, ◌∙◌}
 use mathlib.Core.Bool.{Bool, true, false, ◌||◌}
 use mathlib.Core.Logic.{inl, inr}
 use mathlib.Core.List.Memᴰ.{of_map as mem_of_map}
-use mathlib.Core.List.{List, [], ◌∷◌, map, Memᴰ as Mem}
+use mathlib.Core.List.{List, [], map, Memᴰ as Mem}
 use Prim.Native.Nat.{ℕ, ◌+◌, ◌-◌, ◌*◌, ◌≤◌, ◌<◌, min}
 use native.Mathlib.Omega.{arith}
 use lib.ListN.{length, length-take, length-map}
@@ -13,7 +13,7 @@ use borrow.Author.Tests.{ltb-false, ne_eqb, eqb-true}
 use Rattle.bitset.specs.Bits.{Ascending}
 use Rattle.bitset.proofs.Bools.{or_false}
 use Rattle.molecule.specs.Lists.{Bytes}
-use Rattle.molecule.specs.Record.{bonds, all_bonds}
+use Rattle.molecule.specs.Record.{bonds}
 use Rattle.molecule.specs.Check.{Answer, accepted, refused, row, check}
 use Rattle.molecule.proofs.Accepted.{row_next}
 use Rattle.matches.specs.Table.{Table, match_table, pairs_of, pairs, size_of}
@@ -37,9 +37,11 @@ use Rattle.search.proofs.LeastScore.{least_score_lem, search_score, search_above
 use Rattle.search.proofs.Ends.{search_ends}
 use Rattle.search.proofs.Numbers.{allowed_length, allowed_fewer, series_exact}
 use Rattle.search.proofs.Counting.{search_counts}
-use Rattle.search.proofs.Pathways.{series_pathway, series_length, one_bond}
+use Rattle.search.proofs.Pathways.{series_pathway, series_length}
+use Rattle.search.proofs.Root.{no_piece}
+use Rattle.search.proofs.Lone.{lone_joins}
 use Rattle.search.proofs.Starting.{run_at_root, search_lone}
-use Rattle.search.specs.State.{root_index}
+use Rattle.search.specs.State.{root_index, root_pieces}
 -- of an accepted record: no pathway has fewer joins than the least score, and the least score is the fewest joins
 pub use Rattle.search.proofs.Fewest.{pathway_series, fewest, least_is_fewest, fewest_is}
 
@@ -134,16 +136,16 @@ module _ (r : Bytes) (setting : Setting) (room : Room) (index matches states : �
   -- ---- the trail, whatever the bounds and the memo
   -- An answer is the index of a state that answers its own, with that state's trail. The state's pieces lie in those that its removals leave with nothing let go, so each removal is allowed there (TrailClaim)
 
-  series : Allows r (pairs r) 0 (all_bonds r ∷ []) trail.numbers
+  series : Allows r (pairs r) 0 (root_pieces r) trail.numbers
   series = (search_series r it.ok (pairs r) setting (memo_room room.memo) index trail it.run it.is).0
 
   -- the removals are strictly increasing: each number is below all later ones
   pub trail_ascends : Ascending trail.numbers
-  trail_ascends = allows_ascends r (pairs r) 0 (all_bonds r ∷ []) trail.numbers series
+  trail_ascends = allows_ascends r (pairs r) 0 (root_pieces r) trail.numbers series
 
   -- they are numbers of matches
   pub trail_below : (m : ℕ) → Mem m trail.numbers → m < matches
-  trail_below m i = omega (arith, (allows_from r (pairs r) 0 (all_bonds r ∷ []) trail.numbers series m i).1, scored_matches)
+  trail_below m i = omega (arith, (allows_from r (pairs r) 0 (root_pieces r) trail.numbers series m i).1, scored_matches)
 
   -- they are an allowed series
   pub trail_allowed : allowed r (pairs r) trail.numbers ≡ true
@@ -175,9 +177,9 @@ module _ (r : Bytes) (setting : Setting) (room : Room) (index matches states : �
   pub sizes_two : (k : ℕ) → Mem k trail.sizes → 2 ≤ k
   sizes_two k i =
       let w = mem_of_map (size_of (pairs r)) trail.numbers (rw trail_sizes at i) in
-      omega (arith, w.2, size_of_two r (pairs r) laws w.0 (allows_from r (pairs r) 0 (all_bonds r ∷ []) trail.numbers series w.0 w.1).1)
+      omega (arith, w.2, size_of_two r (pairs r) laws w.0 (allows_from r (pairs r) 0 (root_pieces r) trail.numbers series w.0 w.1).1)
 
-  -- and bonds less one is index plus the sum of (size less one)
+  -- and the root's index is index plus the sum of (size less one)
   pub sizes_sum : root_index r ≡ index + sizes_less_one trail
   sizes_sum = rw trail_sizes (omega (arith, trail_exact, sum_map (λ k. k - 1) (size_of (pairs r)) trail.numbers))
 
@@ -268,13 +270,13 @@ scored_length r setting room index matches states k lent e l =
 
 -- ---- an accepted record
 
--- no subtraction in the score of an allowed series is cut short: what it saves is at most bonds less one
+-- no subtraction in the score of an allowed series is cut short: what it saves is at most the root's index
 pub score_exact : (r : Bytes) → check r ≡ accepted → (τ : List ℕ) → allowed r (pairs r) τ ≡ true → series_score r (pairs r) τ + saved (pairs r) τ ≡ root_index r
 score_exact r ok = series_exact r ok (pairs r) (table_laws r ok)
 
--- one bond needs no join, and neither does a lone atom
+-- one bond needs no join, and neither does a record without bonds
 pub bond_alone : (r : Bytes) → check r ≡ accepted → bonds r ≤ 1 → joins r (pairs r) [] ≡ []
-bond_alone r ok = one_bond r ok
+bond_alone r ok l = lone_joins r ok (no_piece r ok l)
 
 -- the least score that computes is the smallest of the scores of all allowed series
 pub accepted_least : (r : Bytes) → check r ≡ accepted → IsLeastScore r (pairs r) (least_score r (pairs r))

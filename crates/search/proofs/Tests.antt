@@ -1,8 +1,8 @@
--- Tests and statements: what `any`, `find` and `first` give; a list of joins passes the test of a pathway exactly where they are lawful and end in all bonds.
+-- Tests and statements: what `any`, `every`, `find` and `first` give; a list of joins passes the test of a pathway exactly where they are lawful and complete.
 -- Assumes nothing; where `connected` is tested, 64 bonds or fewer.
 use mathlib.Core.Path.{◌≡◌, refl, sym, ap, ◌∙◌}
 use mathlib.Core.Bool.{Bool, true, false, ◌&&◌, true≢false, false≢true}
-use mathlib.Core.Logic.{◌⊎◌, inl, inr}
+use mathlib.Core.Logic.{◌⊎◌, inl, inr, ⊎_elim, ◌≢◌}
 use mathlib.Core.List.Memᴰ.{head as m_head}
 use mathlib.Core.List.Memᴰ.{tail as m_tail}
 use mathlib.Core.List.{List, [], ◌∷◌, ◌++◌, Memᴰ as Mem}
@@ -12,11 +12,11 @@ use native.Mathlib.Decide.{dec_lt}
 use lib.Bits.{bit_and}
 use lib.Dec.{eqb}
 use lib.ListN.{length}
-use borrow.Author.Tests.{eq-eqb, eqb-true}
+use borrow.Author.Tests.{eq-eqb, eqb-true, ne_eqb}
 use Rattle.bitset.specs.Bits.{size, is_sub, is_disjoint}
 use Rattle.bitset.proofs.Bools.{two, or_true, or_left, or_right, and_true}
-use Rattle.molecule.specs.Lists.{Bytes, first, any}
-use Rattle.molecule.specs.Record.{bonds, all_bonds}
+use Rattle.molecule.specs.Lists.{Bytes, first, any, every}
+use Rattle.molecule.specs.Record.{bonds, all_bonds, atoms}
 use Rattle.molecule.specs.Touch.{connected}
 use Rattle.molecule.specs.Connected.{Own, Connected}
 use Rattle.molecule.proofs.Lists.{any_some}
@@ -25,8 +25,10 @@ use Rattle.molecule.proofs.Components.{own_all, all_own, connected_is, connected
 use Rattle.canonize.specs.Strings.{same}
 use Rattle.canonize.specs.Label.{label}
 use Rattle.canonize.proofs.Laws.{same_refl, same_is}
-use Rattle.search.specs.Pathway.{Join, union, find, is_fragment, ready, meets, is_join, is_pathway_after}
-use Rattle.search.specs.Inner.Joining.{MembersIn, after, Ready, JoinAfter, JoinsAfter, EndsWith}
+use Rattle.search.specs.Pathway.{Join, union, find, is_fragment, ready, meets, is_join, is_pathway_after, labelled, complete, whole_made, trees_made}
+use Rattle.search.specs.Inner.Joining.{MembersIn, after, Ready, JoinAfter, JoinsAfter, EndsWith, HasLabel}
+use Rattle.search.specs.State.{root_pieces}
+use mathlib.Core.List.Memᴰ.{not-nil, cases_cons as mem_cons}
 
 -- ---- tests over a list
 
@@ -52,6 +54,19 @@ any_find p d (y ∷ l) e = go (two (p y)) (any_find p d l)
     go : (p y ≡ true) ⊎ (p y ≡ false) → (any p l ≡ true → Mem (find p d l) l × (p (find p d l) ≡ true)) → Mem (find p d (y ∷ l)) (y ∷ l) × (p (find p d (y ∷ l)) ≡ true)
     go (inl t) ih = rw t (m_head refl, t)
     go (inr t) ih = let w = ih (rw t at e) in rw t (m_tail w.0, w.1)
+
+-- every element passes, by test and in words
+pub every_test : (p : ℕ → Bool) (l : List ℕ) → ((x : ℕ) → Mem x l → p x ≡ true) → every p l ≡ true
+every_test p [] h = refl
+every_test p (y ∷ l) h = rw (h y (m_head refl)) (every_test p l (λ x i. h x (m_tail i)))
+
+pub every_of : (p : ℕ → Bool) (l : List ℕ) → every p l ≡ true → (x : ℕ) → Mem x l → p x ≡ true
+every_of p [] e x i = absurd (not-nil i)
+every_of p (y ∷ l) e x i = go (two (p y)) (every_of p l)
+  where
+    go : (p y ≡ true) ⊎ (p y ≡ false) → (every p l ≡ true → (x : ℕ) → Mem x l → p x ≡ true) → p x ≡ true
+    go (inl t) ih = ⊎_elim (λ (q : x ≡ y). rw q t) (λ (j : Mem x l). ih (rw t at e) x j) (mem_cons i)
+    go (inr t) ih = absurd (false≢true (rw t at e))
 
 -- where some number below n passes, so does the first, and it is below n
 pub first_finds : (p : ℕ → Bool) (n i : ℕ) → i < n → p i ≡ true → (first p n < n) × (p (first p n) ≡ true)
@@ -99,21 +114,46 @@ module _ (r : Bytes) where
 
   -- ---- the tests of a pathway
 
+  -- the label of a union that is made, by test and in words
+  labelled_test : (made : List ℕ) (s : ℕ) → HasLabel r made s → labelled r made s ≡ true
+  unfolding labelled
+  labelled_test made s w = any_has (λ u. same (label r u) (label r s)) made w.1 (rw w.2 (same_refl (label r s)))
+
+  labelled_of : (made : List ℕ) (s : ℕ) → labelled r made s ≡ true → HasLabel r made s
+  unfolding labelled
+  labelled_of made s e = let w = any_some (λ u. same (label r u) (label r s)) made e in (w.0, w.1, same_is (label r w.0) (label r s) w.2)
+
   -- a set that is ready passes the test
   pub ready_test : (made : List ℕ) (s : ℕ) → Ready r made s → ready r made s ≡ true
   unfolding ready
-  ready_test made s (inl e) = or_left (eqb (size s) 1) (any (λ u. same (label r u) (label r s)) made) (eq-eqb (size s) 1 e)
-  ready_test made s (inr u) =
-      or_right (eqb (size s) 1) (any (λ u. same (label r u) (label r s)) made) (any_has (λ u. same (label r u) (label r s)) made u.1 (rw u.2 (same_refl (label r s))))
+  ready_test made s (inl e) = or_left (eqb (size s) 1) (labelled r made s) (eq-eqb (size s) 1 e)
+  ready_test made s (inr u) = or_right (eqb (size s) 1) (labelled r made s) (labelled_test made s u)
 
   -- and one that passes is ready
   ready_of : (made : List ℕ) (s : ℕ) → ready r made s ≡ true → Ready r made s
   unfolding ready
-  ready_of made s e = go (or_true (eqb (size s) 1) (any (λ u. same (label r u) (label r s)) made) e)
-    where
-      go : (eqb (size s) 1 ≡ true) ⊎ (any (λ u. same (label r u) (label r s)) made ≡ true) → Ready r made s
-      go (inl h) = inl (eqb-true (size s) 1 h)
-      go (inr h) = let w = any_some (λ u. same (label r u) (label r s)) made h in inr (w.0, w.1, same_is (label r w.0) (label r s) w.2)
+  ready_of made s e =
+      ⊎_elim (λ (h : eqb (size s) 1 ≡ true). inl (eqb-true (size s) 1 h)) (λ (h : labelled r made s ≡ true). inr (labelled_of made s h)) (or_true (eqb (size s) 1) (labelled r made s) e)
+
+  -- ---- the end of a pathway
+
+  -- what is to be made, of one tree and of a mixture
+  pub complete_one : (made : List ℕ) → atoms r ≡ bonds r + 1 → complete r made ≡ whole_made r made
+  unfolding complete
+  complete_one made e = rw (eq-eqb (atoms r) (bonds r + 1) e, complete) refl
+
+  pub complete_more : (made : List ℕ) → atoms r ≢ bonds r + 1 → complete r made ≡ trees_made r made
+  unfolding complete
+  complete_more made n = rw (ne_eqb (atoms r) (bonds r + 1) n, complete) refl
+
+  -- of a mixture each piece of the root has the label of a union that is made
+  pub trees_test : (made : List ℕ) → ((x : ℕ) → Mem x (root_pieces r) → HasLabel r made x) → trees_made r made ≡ true
+  unfolding trees_made
+  trees_test made h = every_test (labelled r made) (root_pieces r) (λ x i. labelled_test made x (h x i))
+
+  pub trees_of : (made : List ℕ) → trees_made r made ≡ true → (x : ℕ) → Mem x (root_pieces r) → HasLabel r made x
+  unfolding trees_made
+  trees_of made e x i = labelled_of made x (every_of (labelled r made) (root_pieces r) e x i)
 
   module _ (few : bonds r ≤ 64) where
     -- a lawful join passes the test
@@ -128,13 +168,11 @@ module _ (r : Bytes) where
         (ready_test made j.left h.left_ready))
         (ready_test made j.right h.right_ready)
 
-    -- lawful joins whose last union is all bonds pass the test of a pathway
-    pub joins_test : (made : List ℕ) (js : List Join) → JoinsAfter r made js → EndsWith r made js (all_bonds r) → is_pathway_after r made js ≡ true
+    -- lawful joins after which what is to be made is pass the test of a pathway
+    pub joins_test : (made : List ℕ) (js : List Join) → JoinsAfter r made js → complete r (after made js) ≡ true → is_pathway_after r made js ≡ true
     unfolding is_pathway_after
-    joins_test [] [] a e = let z : ◌≡◌ {A = ℕ} 0 1 = cc e.1 in absurd (omega arith)
-    joins_test (u ∷ made) [] a e = eq-eqb u (all_bonds r) (cc e.1)
-    joins_test [] (j ∷ js) a e = and_both (join_test [] j a.0) (joins_test (union j ∷ []) js a.1 e)
-    joins_test (u ∷ made) (j ∷ js) a e = and_both (join_test (u ∷ made) j a.0) (joins_test (union j ∷ u ∷ made) js a.1 e)
+    joins_test made [] a e = e
+    joins_test made (j ∷ js) a e = and_both (join_test made j a.0) (joins_test (union j ∷ made) js a.1 e)
 
     -- ---- and back
 
@@ -170,16 +208,11 @@ module _ (r : Bytes) where
           right_ready = ready_of made b e5.1;
         }
 
-    -- joins that pass the test of a pathway are lawful, and their last union is all bonds
-    pub joins_of : (made : List ℕ) (js : List Join) → is_pathway_after r made js ≡ true → JoinsAfter r made js × EndsWith r made js (all_bonds r)
+    -- joins that pass the test of a pathway are lawful, and after them what is to be made is
+    pub joins_of : (made : List ℕ) (js : List Join) → is_pathway_after r made js ≡ true → JoinsAfter r made js × (complete r (after made js) ≡ true)
     unfolding is_pathway_after
-    joins_of [] [] e = absurd (false≢true e)
-    joins_of (u ∷ made) [] e = (tt, (made, ap (λ (z : ℕ). z ∷ made) (eqb-true u (all_bonds r) e)))
-    joins_of [] (j ∷ js) e =
-        let w = and_true (is_join r [] j) (is_pathway_after r (union j ∷ []) js) e in
-        let g = joins_of (union j ∷ []) js w.1 in
-        ((join_of [] j w.0, g.0), g.1)
-    joins_of (u ∷ made) (j ∷ js) e =
-        let w = and_true (is_join r (u ∷ made) j) (is_pathway_after r (union j ∷ u ∷ made) js) e in
-        let g = joins_of (union j ∷ u ∷ made) js w.1 in
-        ((join_of (u ∷ made) j w.0, g.0), g.1)
+    joins_of made [] e = (tt, e)
+    joins_of made (j ∷ js) e =
+        let w = and_true (is_join r made j) (is_pathway_after r (union j ∷ made) js) e in
+        let g = joins_of (union j ∷ made) js w.1 in
+        ((join_of made j w.0, g.0), g.1)

@@ -19,13 +19,14 @@ use Rattle.bounds.specs.Bounds.{least_size}
 use Rattle.bounds.specs.Inner.Removals.{PiecesWithin}
 use Rattle.search.specs.Setting.{Setting, has_matchable_edges}
 use Rattle.search.specs.Trail.{Trail, with_removal, no_removal}
-use Rattle.search.specs.State.{State, root, removable, mask_of, remove, child}
+use Rattle.search.specs.State.{State, root_pieces, root, removable, mask_of, remove, child}
 use Rattle.search.specs.Memo.{Memo, goes, stopped, full}
 use Rattle.search.specs.Search.{Run, Outcome, answers, halts, lower, int_stops, ask, tried, children, branch, counted, visit, search}
 use Rattle.search.specs.Series.{allowed, series_score}
 use Rattle.search.specs.Inner.Claims.{Refines, Removable, Allows, held_of, Holds, with_series, Continues}
 use Rattle.search.proofs.Lists.{refines_within}
-use Rattle.search.proofs.Refine.{one_within, removable_mem, allows_allowed, remove_within, remove_refines, allows_refines, keep_refines}
+use Rattle.search.proofs.Root.{pieces_within, root_index_most}
+use Rattle.search.proofs.Refine.{removable_mem, allows_allowed, remove_within, remove_refines, allows_refines, keep_refines}
 use Rattle.search.proofs.Starting.{run_at_root, by_bonds, lone}
 
 -- a claim of an outcome, of an outcome that is an answer
@@ -62,7 +63,7 @@ module _ (r : Bytes) (ok : check r ≡ accepted) (ms : List Pair) where
   -- the root's pieces hold bonds of the record
   pub root_within : PiecesWithin (all_bonds r) (root r ms).pieces
   unfolding root
-  root_within = one_within (all_bonds r)
+  root_within = pieces_within r ok
 
   -- and so do a child's
   pub child_within : (s : State) (held : List ℕ) (m : ℕ) → PiecesWithin (all_bonds r) s.pieces → Refines held s.pieces → Removable ms s.pieces s.next m
@@ -161,18 +162,18 @@ module _ (r : Bytes) (ok : check r ≡ accepted) (ms : List Pair) where
 
     -- V1 of the search, in words; and the sizes in the trail are those of its matches
     pub search_series : (a : ℕ) (t : Trail) (run : Run) → search r ms setting room ≡ answers a t run
-        → Allows r ms 0 (all_bonds r ∷ []) t.numbers × (a ≡ series_score r ms t.numbers) × (t.sizes ≡ map (size_of ms) t.numbers)
+        → Allows r ms 0 (root_pieces r) t.numbers × (a ≡ series_score r ms t.numbers) × (t.sizes ≡ map (size_of ms) t.numbers)
     unfolding root series_score
     search_series a t run = by_bonds r ms setting room (λ o. o ≡ answers a t run → Series) no_state entered
       where
         Series : Type 0
-        Series = Allows r ms 0 (all_bonds r ∷ []) t.numbers × (a ≡ series_score r ms t.numbers) × (t.sizes ≡ map (size_of ms) t.numbers)
+        Series = Allows r ms 0 (root_pieces r) t.numbers × (a ≡ series_score r ms t.numbers) × (t.sizes ≡ map (size_of ms) t.numbers)
 
         no_state : bonds r ≡ 0 → lone r ms setting room ≡ answers a t run → Series
         no_state none e =
             let index : 0 ≡ a = cc in
             let trail : no_removal ≡ t = cc in
-            rw (← index, ← trail) (tt, omega arith, refl)
+            rw (← index, ← trail) (tt, omega (arith, root_index_most r ok), refl)
 
         entered : 1 ≤ bonds r → visit r ms setting room (bonds r) (root r ms) (run_at_root r) ≡ answers a t run → Series
         entered some e =
@@ -184,4 +185,4 @@ module _ (r : Bytes) (ok : check r ≡ accepted) (ms : List Pair) where
     -- and in the definitions' own: the trail is an allowed series, and the index is its score
     pub search_trail : (a : ℕ) (t : Trail) (run : Run) → search r ms setting room ≡ answers a t run → (allowed r ms t.numbers ≡ true) × (a ≡ series_score r ms t.numbers)
     unfolding allowed
-    search_trail a t run e = let w = search_series a t run e in (allows_allowed r ms 0 (all_bonds r ∷ []) t.numbers w.0, w.1)
+    search_trail a t run e = let w = search_series a t run e in (allows_allowed r ms 0 (root_pieces r) t.numbers w.0, w.1)

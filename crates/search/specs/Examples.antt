@@ -1,9 +1,9 @@
--- Document 01, 'Molecules to try': the starred rows as one checked table, by computing; what is lent afterwards; the memo; demand 3 on seven molecules; pathways.
+-- Document 01, 'Molecules to try': the starred rows as one checked table, by computing; what is lent afterwards; the memo; demand 3 on seven molecules; pathways; mixtures; one tree.
 use Rattle.std.specs.Prelude.{◌≡◌, refl, Bool, true, false, ◌&&◌, ℕ, suc, length, replicate, set, eqb}
 use mathlib.Core.List.{List, [], ◌∷◌, ◌++◌, map, flat_map}
 use Rattle.std.specs.Int.Count.{count_trailing_zeros}
 use Rattle.molecule.specs.Lists.{Bytes}
-use Rattle.molecule.specs.Examples.{times, chain}
+use Rattle.molecule.specs.Examples.{times, chain, chain_ends}
 use Rattle.canonize.specs.Strings.{sort}
 use Rattle.matches.specs.Table.{pair, size_of, pairs}
 use Rattle.matches.specs.Examples.{compute as tables, star_ends, star}
@@ -12,11 +12,12 @@ use Rattle.bounds.specs.Numbers.{ceil_log2}
 use Rattle.bounds.specs.Bounds.{usable_edges, int_term, int_bound, usable_edges_bound, left_out, least_size}
 use Rattle.search.specs.Setting.{Setting, Room}
 use Rattle.search.specs.Trail.{Trail, no_removal, with_removal}
-use Rattle.search.specs.State.{struck, inside, big_components, root, removable, mask_of, keep, remove, child}
+use Rattle.search.specs.State.{struck, inside, big_components, root, removable, mask_of, keep, remove, child, root_pieces, root_index}
 use Rattle.search.specs.Memo.{Entry, Memo, goes, stopped, full, same_key, recall, remember, key_of, entry_of}
-use Rattle.search.specs.Search.{lower, int_stops, ask, tried, children, branch, counted, visit, search}
+use Rattle.search.specs.Search.{lower, int_stops, ask, tried, children, branch, counted, visit, search, Outcome, answers}
 use Rattle.search.specs.Series.{allowed_from, allowed, series_score, series_from, all_series, least_of, least_score}
-use Rattle.search.specs.Pathway.{Join, union, atoms_of, is_fragment, ready, meets, is_join, is_pathway_after, is_pathway, join_up, assemble, grown, split, rebuilt, joins_from, joins}
+use Rattle.search.specs.Pathway.{Join, union, atoms_of, is_fragment, labelled, ready, meets, is_join, whole_made, trees_made, complete, is_pathway_after, is_pathway, join_up, assemble, grown, split, rebuilt, joins_from, joins}
+use Rattle.search.specs.OneTree.{index_of_one, ends_in_all, is_pathway_of_one, allowed_of_one, score_of_one, least_of_one, joins_of_one, search_of_one, answer_of_one}
 use Rattle.search.specs.Answer.{entry_answer, ScoreAnswer, scored, turned_back, searched, score_answer, trail_after, table_after}
 
 -- to unfold it is to unfold every definition
@@ -26,8 +27,9 @@ unfolding tables star_ends star flat_map count_trailing_zeros sort pair size_of
     struck inside big_components root removable mask_of keep remove child same_key recall remember key_of entry_of
     lower int_stops ask tried children branch counted visit search
     allowed_from allowed series_score series_from all_series least_of least_score
-    union atoms_of is_fragment ready meets is_join is_pathway_after is_pathway join_up assemble grown split rebuilt joins_from joins
+    union atoms_of is_fragment labelled ready meets is_join whole_made trees_made complete is_pathway_after is_pathway join_up assemble grown split rebuilt joins_from joins
     entry_answer searched score_answer trail_after table_after
+    ends_in_all is_pathway_of_one allowed_of_one least_of_one joins_of_one search_of_one answer_of_one
 compute = tt
 
 -- ---- molecules, settings and room
@@ -104,7 +106,7 @@ starred =
     try (chain 4) usual (lent 4096 4 0) (scored 2 1 2 first) ∷
     try (chain 5) (boundless 1) (lent 4096 4096 159) (turned_back 12 2) ∷
     try (chain 5) (boundless 1) (lent 4096 4096 160) (scored 3 3 4 first) ∷
-    try triangle usual ample (turned_back 6 3) ∷ []
+    try triangle usual ample (turned_back 6 2) ∷ []
 
 -- every row's answer is what the document says
 pub starred_rows : map (λ row. score_answer row.bytes row.setting row.room) starred ≡ map (λ row. row.says) starred
@@ -278,3 +280,132 @@ pub record Longer : Type 0 where
 pub longer_than_index : Longer
 unfolding compute
 longer_than_index = record { pathway = refl; join_count = refl; first = refl; second = refl; series = refl; score = refl; least = refl; shorter = refl }
+
+-- ---- mixtures (document 02, 9/14)
+
+-- a carbons and n single bonds with these ends, all natural
+abbrev pub joined : ℕ → ℕ → List ℕ → Bytes
+joined a n ends = (a ∷ n ∷ []) ++ times a 6 ++ times a 1 ++ ends ++ times n 1
+
+-- two chains of two bonds; one beside a lone atom; two bonds apart; two lone atoms
+abbrev pub two_chains : Bytes
+two_chains = joined 6 4 (chain_ends 0 2 ++ chain_ends 3 2)
+
+abbrev pub chain_and_atom : Bytes
+chain_and_atom = joined 4 2 (chain_ends 0 2)
+
+abbrev pub two_bonds : Bytes
+two_bonds = joined 4 2 (chain_ends 0 1 ++ chain_ends 2 1)
+
+abbrev pub two_atoms : Bytes
+two_atoms = joined 2 0 []
+
+-- the search without a memo
+abbrev pub found : Bytes → Outcome
+found r = search r (pairs r) usual 0
+
+-- what it answers, with best and the states entered
+abbrev pub finds : ℕ → ℕ → Trail → Outcome
+finds index states trail = answers index trail (record { best = index; states = states; memo = [] })
+
+pub record Mixtures : Type 0 where
+  -- twins in two trees are a match, and one of the trees is made
+  pub chains_pieces : root_pieces two_chains ≡ 3 ∷ 12 ∷ []
+  pub chains_index : root_index two_chains ≡ 2
+  pub chains_matches : pairs two_chains ≡ record { h1 = 12; h2 = 3 } ∷ []
+  pub chains_score : series_score two_chains (pairs two_chains) (0 ∷ []) ≡ 1
+  pub chains_demand : demand3 two_chains 1 (0 ∷ []) ≡ true
+  pub chains_joins : joins two_chains (pairs two_chains) (0 ∷ []) ≡ join 4 8 ∷ []
+  pub chains_grown : joins two_chains (pairs two_chains) [] ≡ join 1 2 ∷ join 4 8 ∷ []
+  pub chains_unmade : is_pathway two_chains [] ≡ false
+  pub chains_found : found two_chains ≡ finds 1 2 first
+  -- the lone atom adds nothing
+  pub beside_demand : demand3 chain_and_atom 1 [] ≡ true
+  pub beside_joins : joins chain_and_atom (pairs chain_and_atom) [] ≡ join 1 2 ∷ []
+  pub beside_found : found chain_and_atom ≡ finds 1 1 no_removal
+  -- single bonds are no pieces of the root, but it is entered
+  pub bonds_pieces : root_pieces two_bonds ≡ []
+  pub bonds_demand : demand3 two_bonds 0 [] ≡ true
+  pub bonds_joined : is_pathway two_bonds (join 1 2 ∷ []) ≡ false
+  pub bonds_found : found two_bonds ≡ finds 0 1 no_removal
+  -- without bonds no state is
+  pub atoms_demand : demand3 two_atoms 0 [] ≡ true
+  pub atoms_found : found two_atoms ≡ finds 0 0 no_removal
+
+pub mixtures : Mixtures
+unfolding compute
+mixtures = record {
+  chains_pieces = refl;
+  chains_index = refl;
+  chains_matches = refl;
+  chains_score = refl;
+  chains_demand = refl;
+  chains_joins = refl;
+  chains_grown = refl;
+  chains_unmade = refl;
+  chains_found = refl;
+  beside_demand = refl;
+  beside_joins = refl;
+  beside_found = refl;
+  bonds_pieces = refl;
+  bonds_demand = refl;
+  bonds_joined = refl;
+  bonds_found = refl;
+  atoms_demand = refl;
+  atoms_found = refl;
+}
+
+-- of score's whole answer: two equal chains; a chain beside an atom; two single bonds enter one state, within the budget, which
+-- needs a memo entry unless Int stops it; without bonds no state is entered and no table is asked; nine atoms are row 2
+pub mixture_rows :
+    score_answer two_chains usual ample
+    ∷ score_answer chain_and_atom usual ample
+    ∷ score_answer two_bonds usual ample
+    ∷ score_answer two_bonds (with_budget 0) ample
+    ∷ score_answer two_bonds (boundless 1) (lent 4096 4096 0)
+    ∷ score_answer two_bonds (boundless 1) (lent 4096 4096 80)
+    ∷ score_answer two_bonds (record { bounds = 1; memo = 1; budget = 9 }) (lent 4096 4096 0)
+    ∷ score_answer two_atoms (with_budget 0) (lent 0 0 0)
+    ∷ score_answer (joined 9 0 []) usual ample
+    ∷ []
+    ≡ scored 1 1 2 first ∷ scored 1 0 1 no_removal ∷ scored 0 0 1 no_removal ∷ turned_back 11 0 ∷ turned_back 12 1 ∷ scored 0 0 1 no_removal ∷ scored 0 0 1 no_removal
+    ∷ scored 0 0 0 no_removal ∷ turned_back 2 0 ∷ []
+unfolding compute
+mixture_rows = refl
+
+-- ---- document 01's definitions of one tree (OneTree)
+
+pub record OneTree : Type 0 where
+  pub four_allowed : allowed_of_one (chain 4) (pairs (chain 4)) (0 ∷ []) ≡ true
+  pub four_score : score_of_one (chain 4) (pairs (chain 4)) (0 ∷ []) ≡ 2
+  pub four_least : least_of_one (chain 4) (pairs (chain 4)) ≡ 2
+  pub four_joins : joins_of_one (chain 4) (pairs (chain 4)) (0 ∷ []) ≡ join 4 8 ∷ join 12 3 ∷ []
+  pub four_pathway : is_pathway_of_one (chain 4) (join 4 8 ∷ join 12 3 ∷ []) ≡ true
+  pub four_answer : answer_of_one (chain 4) usual ample ≡ scored 2 1 2 first
+  -- two bonds need a join; one does not, and its state is entered
+  pub two_pathway : is_pathway_of_one (chain 2) [] ≡ false
+  pub one_pathway : is_pathway_of_one (chain 1) [] ≡ true
+  pub one_answer : answer_of_one (chain 1) usual ample ≡ scored 0 0 1 no_removal
+  pub lone_answer : answer_of_one (chain 0) usual ample ≡ scored 0 0 0 no_removal
+  -- a mixture's root is another, and so is what its pathways end in
+  pub chains_index : index_of_one two_chains ≡ 3
+  pub chains_made : is_pathway two_chains (join 4 8 ∷ []) ≡ true
+  pub chains_pathway : is_pathway_of_one two_chains (join 4 8 ∷ []) ≡ false
+
+pub one_tree : OneTree
+unfolding compute
+one_tree = record {
+  four_allowed = refl;
+  four_score = refl;
+  four_least = refl;
+  four_joins = refl;
+  four_pathway = refl;
+  four_answer = refl;
+  two_pathway = refl;
+  one_pathway = refl;
+  one_answer = refl;
+  lone_answer = refl;
+  chains_index = refl;
+  chains_made = refl;
+  chains_pathway = refl;
+}

@@ -7,5 +7,6 @@ pub mod Search
 pub mod Series
 pub mod Pathway
 pub mod Answer
+pub mod OneTree
 pub mod Examples
 pub mod Inner

@@ -1,15 +1,15 @@
 -- Document 01, 'Search': pathways. The test of a list of joins, and the joins that a trail gives (demand 3).
-use Rattle.std.specs.Prelude.{◌≡◌, Bool, true, false, not, ◌&&◌, ◌||◌, ℕ, zero, suc, ◌^◌, ◌≤◌, length, get_or, take, drop, leb, eqb}
+use Rattle.std.specs.Prelude.{◌≡◌, Bool, true, false, not, ◌&&◌, ◌||◌, ℕ, zero, suc, ◌+◌, ◌^◌, ◌≤◌, length, get_or, take, drop, leb, eqb}
 use mathlib.Core.List.{List, [], ◌∷◌, ◌++◌, map, flat_map}
 use Rattle.std.specs.Int.Bits.{bit_or}
 use Rattle.bitset.specs.Bits.{size, members, diff, low, is_sub, is_disjoint, unions}
-use Rattle.molecule.specs.Lists.{Bytes, first, pick, any}
-use Rattle.molecule.specs.Record.{bonds, end_a, end_b, all_bonds}
+use Rattle.molecule.specs.Lists.{Bytes, first, pick, any, every}
+use Rattle.molecule.specs.Record.{atoms, bonds, end_a, end_b, all_bonds}
 use Rattle.molecule.specs.Touch.{components, connected}
 use Rattle.canonize.specs.Strings.{same}
 use Rattle.canonize.specs.Label.{label}
 use Rattle.matches.specs.Table.{Pair, pair}
-use Rattle.search.specs.State.{struck}
+use Rattle.search.specs.State.{bond_trees, root_pieces, struck}
 
 -- two fragments put together
 pub record Join : Type 0 where
@@ -36,9 +36,13 @@ module _ (r : Bytes) where
   unfoldable pub is_fragment : ℕ → Bool
   is_fragment s = is_sub s (all_bonds r) && connected r s
 
+  -- the label of one of the unions made
+  unfoldable pub labelled : List ℕ → ℕ → Bool
+  labelled made s = any (λ u. same (label r u) (label r s)) made
+
   -- a single bond, or the label of an earlier join's union
   unfoldable pub ready : List ℕ → ℕ → Bool
-  ready made s = eqb (size s) 1 || any (λ u. same (label r u) (label r s)) made
+  ready made s = eqb (size s) 1 || labelled made s
 
   -- two sets with a common atom
   unfoldable pub meets : ℕ → ℕ → Bool
@@ -50,17 +54,29 @@ module _ (r : Bytes) where
       is_fragment j.left && is_fragment j.right && is_disjoint j.left j.right && meets j.left j.right
       && ready made j.left && ready made j.right
 
-  -- each is a join after those whose unions are made, newest first; the last union is all bonds
+  -- a record of one tree: the last union is all bonds. One bond needs no join, and neither does a lone atom (document 02, 5/14)
+  unfoldable pub whole_made : List ℕ → Bool
+  whole_made [] = leb (bonds r) 1
+  whole_made (u ∷ made) = eqb u (all_bonds r)
+
+  -- a mixture: every tree of two or more bonds has the label of some join's union (document 02, 9/14)
+  unfoldable pub trees_made : List ℕ → Bool
+  trees_made made = every (labelled made) (root_pieces r)
+
+  -- what is to be made is, one tree where a is n + 1
+  unfoldable pub complete : List ℕ → Bool
+  complete made = elim (eqb (atoms r) (bonds r + 1)) [ true ↦ whole_made made | false ↦ trees_made made ]
+
+  -- each is a join after those whose unions are made, newest first; in the end it is complete
   unfoldable pub is_pathway_after : List ℕ → List Join → Bool
-  is_pathway_after [] [] = false
-  is_pathway_after (u ∷ made) [] = eqb u (all_bonds r)
+  is_pathway_after made [] = complete made
   is_pathway_after made (j ∷ js) = is_join made j && is_pathway_after (union j ∷ made) js
 
-  -- one bond needs no join, and neither does a lone atom, whose pathway is the empty one (document 02, 5/14)
+  -- nothing is made at first
   unfoldable pub is_pathway : List Join → Bool
-  is_pathway js = (leb (bonds r) 1 && eqb (length js) 0) || is_pathway_after [] js
+  is_pathway js = is_pathway_after [] js
 
-  -- demand 3: a pathway with exactly k joins ends in the molecule
+  -- demand 3: there is a pathway with exactly k joins
   pub record HasPathway (k : ℕ) : Type 0 where
     pub path : List Join
     pub is_one : is_pathway path ≡ true
@@ -112,4 +128,4 @@ module _ (r : Bytes) where
 
     -- the joins of a series from the root
     unfoldable pub joins : List ℕ → List Join
-    joins τ = joins_from (all_bonds r ∷ []) τ
+    joins τ = joins_from (bond_trees r) τ

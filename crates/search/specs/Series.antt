@@ -3,9 +3,9 @@ use Rattle.std.specs.Prelude.{◌≡◌, Bool, true, ◌&&◌, ℕ, zero, suc, �
 use mathlib.Core.List.{List, [], ◌∷◌, map, flat_map}
 use Rattle.molecule.specs.Lists.{Bytes}
 use Rattle.bounds.specs.Numbers.{sum_of}
-use Rattle.molecule.specs.Record.{bonds, all_bonds}
+use Rattle.molecule.specs.Record.{bonds}
 use Rattle.matches.specs.Table.{Pair, pair, size_of}
-use Rattle.search.specs.State.{root_index, inside, removable, remove}
+use Rattle.search.specs.State.{root_pieces, root_index, inside, removable, remove}
 
 -- what a series of matches saves: size less one for each
 abbrev pub saved : List Pair → List ℕ → ℕ
@@ -21,9 +21,9 @@ module _ (r : Bytes) (ms : List Pair) where
 
   -- its pieces start as the root's
   unfoldable pub allowed : List ℕ → Bool
-  allowed τ = allowed_from 0 (all_bonds r ∷ []) τ
+  allowed τ = allowed_from 0 (root_pieces r) τ
 
-  -- bonds less one, less what the series saves; without bonds there is the empty series alone, whose score is defined as 0 (document 02, 5/14)
+  -- the root's index (document 02, 9/14), less what the series saves; without bonds there is the empty series alone, which scores 0 (5/14)
   unfoldable pub series_score : List ℕ → ℕ
   series_score τ = root_index r - saved ms τ
 
@@ -35,7 +35,7 @@ module _ (r : Bytes) (ms : List Pair) where
 
   -- every allowed series; a removal strikes at least two bonds, so none has over n
   unfoldable pub all_series : List (List ℕ)
-  all_series = series_from (bonds r) 0 (all_bonds r ∷ [])
+  all_series = series_from (bonds r) 0 (root_pieces r)
 
   -- the smallest of k and the scores of a list of series
   unfoldable pub least_of : ℕ → List (List ℕ) → ℕ

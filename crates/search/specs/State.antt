@@ -4,8 +4,9 @@ use mathlib.Core.List.{List, [], ◌∷◌, ◌++◌, flat_map}
 use Rattle.std.specs.Int.Bits.{bit_and, bit_or}
 use Rattle.bitset.specs.Bits.{size, diff, is_sub, unions}
 use Rattle.molecule.specs.Lists.{Bytes, numbers_from, filter, any}
-use Rattle.molecule.specs.Record.{bonds, all_bonds}
+use Rattle.molecule.specs.Record.{all_bonds}
 use Rattle.molecule.specs.Touch.{components}
+use Rattle.bounds.specs.Numbers.{sum_of, max_of}
 use Rattle.matches.specs.Table.{Pair, pair, size_of}
 use Rattle.search.specs.Trail.{Trail, no_removal, with_removal}
 
@@ -29,14 +30,22 @@ inside pieces h = any (is_sub h) pieces
 unfoldable pub big_components : Bytes → ℕ → List ℕ
 big_components r s = filter (λ c. leb 2 (size c)) (components r s)
 
--- the root's index: n − 1; without bonds it is defined as 0 (document 02, 5/14)
+-- the trees that have bonds, as sets of bonds, ascending by their lowest bonds
+abbrev pub bond_trees : Bytes → List ℕ
+bond_trees r = components r (all_bonds r)
+
+-- document 02, 9/14: the root's pieces are the trees of two or more bonds
+abbrev pub root_pieces : Bytes → List ℕ
+root_pieces r = big_components r (all_bonds r)
+
+-- its index is the sum of bonds less one over the trees that have bonds; so it is 0 without bonds (5/14)
 abbrev pub root_index : Bytes → ℕ
-root_index r = bonds r - 1
+root_index r = sum_of (λ t. size t - 1) (bond_trees r)
 
 module _ (r : Bytes) (ms : List Pair) where
-  -- the root holds all bonds as one piece, index n − 1, largest removed n, last removed −1
+  -- the root; its largest removed is the largest tree, its last removed −1
   unfoldable pub root : State
-  root = record { pieces = all_bonds r ∷ []; index = root_index r; largest = bonds r; next = 0; trail = no_removal }
+  root = record { pieces = root_pieces r; index = root_index r; largest = max_of size (bond_trees r); next = 0; trail = no_removal }
 
   -- removable are the matches numbered after last removed with both fragments inside pieces
   unfoldable pub removable : List ℕ → ℕ → List ℕ

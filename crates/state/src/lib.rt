@@ -6,6 +6,8 @@ ghost use Rattle.arrayvec.specs.ArrayVec.{array_vec_len};
 ghost use Rattle.bitset.specs.Bits.{size, diff};
 ghost use Rattle.molecule.specs.Lists.{Bytes};
 ghost use Rattle.molecule.specs.Record.{bonds};
+ghost use Rattle.molecule.specs.Touch.{parts, touching_words};
+ghost use Rattle.bounds.specs.Numbers.{sum_of, max_of};
 ghost use Rattle.matches.specs.Table.{Pair, size_of};
 ghost use Rattle.search.specs.State.{root, keep, remove, child};
 ghost use Rattle.state.specs.Inner.Views.{trail_of, state_of};
@@ -27,22 +29,6 @@ pub struct State {
     pub trail: Trail,
 }
 
-// All n bonds as one piece.
-pub fn root(n: usize) -> State
-    requires { (1 ≤ n) × (n ≤ 64) }
-    ensures { (bytes : Bytes) (ms : List Pair) → bonds bytes ≡ n → state_of result ≡ root bytes ms }
-{
-    let mut pieces = ArrayVec::new();
-    pieces.push(bitset::first_n(n as u32));
-    State {
-        pieces,
-        index: n as u32 - 1,
-        largest: n as u32,
-        next: 0,
-        trail: Trail::new(),
-    }
-}
-
 // The components of s that have two or more bonds are added to out. The touching words stay a parameter here and below: a molecule in their place would
 // ask more of callers, since this holds of any words.
 fn push_big<const N: usize>(touch: &[u64; 64], s: u64, out: &mut ArrayVec<u64, N>)
@@ -57,6 +43,43 @@ fn push_big<const N: usize>(touch: &[u64; 64], s: u64, out: &mut ArrayVec<u64, N
         if bitset::without_lowest(c) != 0 {
             out.push(c);
         }
+    }
+}
+
+// The sum of bonds less one over the components of s, and the most bonds in one.
+fn tree_sizes(touch: &[u64; 64], s: u64) -> (u32, u32)
+    ensures index { result.0 ≡ sum_of (λ t. size t - 1) (parts (λ (i : ℕ). get_or touch.now i 0) s) }
+    ensures largest { result.1 ≡ max_of size (parts (λ (i : ℕ). get_or touch.now i 0) s) }
+{
+    let mut rest = s;
+    let mut index = 0;
+    let mut largest = 0;
+    // A while, as above.
+    while rest != 0 {
+        let t = molecule::graph::component(touch, rest, bitset::lowest(rest));
+        rest = bitset::difference(rest, t);
+        let size = bitset::size(t);
+        index += size - 1;
+        largest = largest.max(size);
+    }
+    (index, largest)
+}
+
+// The root of n bonds: each tree of two or more bonds is a piece.
+pub fn root(touch: &[u64; 64], n: usize) -> State
+    requires { n ≤ 64 }
+    ensures { (bytes : Bytes) (ms : List Pair) → bonds bytes ≡ n → touch.now ≡ touching_words bytes → state_of result ≡ root bytes ms }
+{
+    let all = bitset::first_n(n as u32);
+    let mut pieces = ArrayVec::new();
+    push_big(touch, all, &mut pieces);
+    let (index, largest) = tree_sizes(touch, all);
+    State {
+        pieces,
+        index,
+        largest,
+        next: 0,
+        trail: Trail::new(),
     }
 }
 

@@ -9,11 +9,26 @@ from pathlib import Path
 
 from .. import messages
 from ..errors import NotStarted
-from . import delimited, sdf, workbook
+from ..model import Compound
+from . import answers, delimited, sdf, workbook
 from .columns import compound_of, wanted_column
 from .table import Reading, Row, Style, Table, Value, text_of
 
-__all__ = ["FORMATS", "Reading", "Row", "Style", "Table", "Value", "INPUT", "from_smiles", "joined", "read", "text_of", "wanted_column"]
+__all__ = [
+    "FORMATS",
+    "INPUT",
+    "Reading",
+    "Row",
+    "Style",
+    "Table",
+    "Value",
+    "blended",
+    "from_smiles",
+    "joined",
+    "read",
+    "text_of",
+    "wanted_column",
+]
 
 FORMATS = ("csv", "tsv", "xlsx", "sdf", "mol", "smi")
 ENDINGS = {
@@ -107,11 +122,25 @@ def joined(tables: Sequence[Table]) -> Table:
                 cells[place] = cell
             rows.append(replace(row, cells=tuple(cells)))
     same = len({table.style.encoding for table in tables}) == 1
+    name = next((where[table.name] for table, where in zip(tables, places) if table.name is not None), None)
     return Table(
         source=", ".join(table.source for table in tables),
         columns=(*(column for column, _ in keys), FILE_COLUMN),
         rows=tuple(rows),
+        name=name,
         style=replace(tables[0].style, encoding=tables[0].style.encoding if same else "utf-8"),
         kind=tables[0].kind,
         warnings=tuple(warning for table in tables for warning in table.warnings),
     )
+
+
+def blended(table: Table, name: str) -> tuple[Table, tuple[int, ...]]:
+    """The table with a last row of this name for its compounds scored together, and the places of these.
+
+    The row of a blend that an earlier run has written is no compound.
+    """
+    told = [place for place, column in enumerate(table.columns) if answers.tells_blend(column)]
+    members = tuple(number for number, row in enumerate(table.rows) if not any(text_of(row.cells[place]).strip() for place in told))
+    cells = tuple(name if place == table.name else "" for place in range(len(table.columns)))
+    compound = Compound(name, blend=tuple(table.rows[place].compound for place in members))
+    return replace(table, rows=(*table.rows, Row(cells, compound, sdf.record_of_title(name)))), members

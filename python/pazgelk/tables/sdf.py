@@ -14,6 +14,7 @@ from .decode import decode, guess, refuse_binary
 from .table import Reading, Row, Style, Table
 
 END = "M  END"
+WITHOUT_ATOMS = f"\n\n  0  0  0  0  0  0  0  0  0  0999 V2000\n{END}\n"
 COUNTS = re.compile(r"^[ \d]{6}.*V[23]000\s*$")
 ITEM = re.compile(r"^>[^<]*<([^>]*)>")
 
@@ -107,6 +108,11 @@ def _compound(record: Record, name: str, alone: bool) -> Compound:
     return Compound(name, mol_block=record.block)
 
 
+def record_of_title(title: str) -> str:
+    """The text of a record that has a title and no structure."""
+    return f"{title}\n{WITHOUT_ATOMS}"
+
+
 def read(data: bytes, source: str, reading: Reading, kind: str) -> Table:
     """The table of an SDF's or mol file's bytes: the titles and the data as columns."""
     if reading.column is not None:
@@ -127,4 +133,4 @@ def read(data: bytes, source: str, reading: Reading, kind: str) -> Table:
         rows.append(Row(cells, _compound(record, cells[place or 0], alone), record.text))
     if not alone and records and not records[-1].closed:
         told += (messages.last_record_open(source=source, title=records[-1].title),)
-    return Table(source, header, tuple(rows), style=style, kind=kind, warnings=told)
+    return Table(source, header, tuple(rows), name=place or 0, style=style, kind=kind, warnings=told)

@@ -34,12 +34,13 @@ class Row:
 
 @dataclass(frozen=True)
 class Table:
-    """A list of compounds: the columns' names, the rows, and what stands above the header."""
+    """A list of compounds: the columns' names, the rows, what stands above the header, and which column holds the names."""
 
     source: str
     columns: tuple[str, ...]
     rows: tuple[Row, ...]
     above: tuple[tuple[Value, ...], ...] = ()
+    name: int | None = None
     style: Style = field(default_factory=Style)
     kind: str = "csv"
     warnings: tuple[str, ...] = ()

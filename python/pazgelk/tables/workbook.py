@@ -172,6 +172,7 @@ def read(data: bytes, source: str, reading: Reading) -> Table:
             columns=header,
             rows=tuple(row_of(row) for row in rows[top + 1 :]),
             above=tuple(tuple(_kept(cell) for cell in row) for row in rows[:top]),
+            name=None if name == structure else name,
             kind="xlsx",
         )
     )

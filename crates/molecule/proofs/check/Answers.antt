@@ -16,13 +16,13 @@ pub returns-in-Some-first_bad_ends : goal.returns-in-Some-first_bad_ends
 returns-in-Some-first_bad_ends c =
     row_5 _ c.in_ok-check_counts.ensures.ok c.in_default.ensures c.in_default-first_bad_class.ensures c.in_default-first_bad_code.ensures _ c.in-Some-first_bad_ends.ensures
 
-pub first_unreached-requires : goal.first_unreached-requires
-first_unreached-requires c = formed _ c.in_ok-check_counts.ensures.ok c.in_default-first_bad_ends.ensures
+pub first_ring-requires : goal.first_ring-requires
+first_ring-requires c = formed _ c.in_ok-check_counts.ensures.ok c.in_default-first_bad_ends.ensures
 
-pub returns-in-Some-first_unreached : goal.returns-in-Some-first_unreached
-returns-in-Some-first_unreached c =
-    row_6 _ c.in_ok-check_counts.ensures.ok c.in_default.ensures c.in_default-first_bad_class.ensures c.in_default-first_bad_code.ensures c.in_default-first_bad_ends.ensures _ c.in-Some-first_unreached.ensures
+pub returns-in-Some-first_ring : goal.returns-in-Some-first_ring
+returns-in-Some-first_ring c =
+    row_6 _ c.in_ok-check_counts.ensures.ok c.in_default.ensures c.in_default-first_bad_class.ensures c.in_default-first_bad_code.ensures c.in_default-first_bad_ends.ensures _ c.in-Some-first_ring.ensures
 
 pub returns : goal.returns
 returns c =
-    no_row _ c.in_ok-check_counts.ensures.ok c.in_default.ensures c.in_default-first_bad_class.ensures c.in_default-first_bad_code.ensures c.in_default-first_bad_ends.ensures c.in_default-first_unreached.ensures
+    no_row _ c.in_ok-check_counts.ensures.ok c.in_default.ensures c.in_default-first_bad_class.ensures c.in_default-first_bad_code.ensures c.in_default-first_bad_ends.ensures c.in_default-first_ring.ensures

@@ -50,8 +50,8 @@ pub record Fine (r : Bytes) (ms : List Pair) (s : State) : Type 0 where
   -- no subtraction of the search or its bounds is cut short
   pub covered : sum_of (λ (p : ℕ). size p - 1) s.pieces ≤ s.index
   pub exact : s.index + saved ms s.trail.numbers ≡ root_index r
-  -- some piece has as many bonds as the largest removed
-  pub widest : (p : ℕ) × Memᴰ p s.pieces × (size p ≡ s.largest)
+  -- some piece has as many bonds as the largest removed, where that is no single bond
+  pub widest : 2 ≤ s.largest → (p : ℕ) × Memᴰ p s.pieces × (size p ≡ s.largest)
 
 -- what a state holds after letting go, as `branch` has it
 abbrev pub held_of : Bytes → List Pair → State → List ℕ

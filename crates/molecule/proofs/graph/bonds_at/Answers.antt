@@ -1,4 +1,4 @@
--- A turn puts one bond at its two ends, which are among the 65 atom numbers.
+-- A turn puts one bond at its two ends, which are among the 72 atom numbers.
 use Rattle.std.proofs.Common.{◌<◌, ◌≡◌, arith}
 use Rattle.molecule.specs.Record.{bonds}
 use Rattle.molecule.proofs.Accepted.{end_few}

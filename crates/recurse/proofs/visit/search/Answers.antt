@@ -1,8 +1,7 @@
 -- The root may be entered, and the search is its visit; without bonds it enters none.
 use Rattle.std.proofs.Common.{[], sym, arith}
 use Rattle.matches.specs.Table.{pairs}
-use Rattle.search.proofs.Parts.{few}
-use Rattle.recurse.proofs.Turns.{root_entered, root_found, lone_found}
+use Rattle.recurse.proofs.Turns.{root_entered, root_low, root_found, lone_found}
 use Rattle.recurse.proofs.visit.search.Goals as goal
 
 pub visit-requires : goal.visit-requires
@@ -11,9 +10,10 @@ visit-requires c =
     let p = c.requires in
     let n = c.bonds-n.ensures in
     let s = c.root-s in
+    let e = s.ensures M.bytes.now (pairs M.bytes.now) (sym n) M.touching in
     record {
-      entered = root_entered M.bytes.now M.accepted (omega arith) s.result (s.ensures M.bytes.now (pairs M.bytes.now) (sym n));
-      low = omega (arith, n, few M.bytes.now M.accepted);
+      entered = root_entered M.bytes.now M.accepted s.result e;
+      low = root_low M.bytes.now M.accepted s.result e;
       cached = p.cached;
       stored = ([], p.stored);
     }
@@ -32,4 +32,4 @@ returns c =
     let n = sym c.bonds-n.ensures in
     let s = c.root-s in
     let v = c.visit in
-    root_found M.bytes.now M.accepted (omega arith) s.result (s.ensures M.bytes.now (pairs M.bytes.now) n) a.searched.now.setting _ c.bonds-n.result n v.result v.new.memo (v.ensures.follows [] c.requires.stored)
+    root_found M.bytes.now M.accepted s.result (s.ensures M.bytes.now (pairs M.bytes.now) n M.touching) a.searched.now.setting _ (omega arith) v.result v.new.memo (v.ensures.follows [] c.requires.stored)
