@@ -15,13 +15,16 @@ fn put_sizes(sizes: &[u8], numbers: &mut [u32])
     }
 }
 
-// An array of the trail becomes these numbers with zeros after them: what is left of it is lent on to be cleared.
+// An array of the trail becomes these numbers with zeros after them: what is left of it is lent on to be cleared. A loop: by copy_from_slice the archive
+// for C would need memmove of its host.
 fn put(numbers: &[u32], array: &mut [u32])
     requires { (length numbers.now ≤ 32) × (length array.old ≡ 32) }
     ensures { array.new ≡ array_of numbers.now }
 {
     let (front, rest) = array.split_at_mut(numbers.len());
-    front.copy_from_slice(numbers);
+    for (i, number) in numbers.iter().enumerate() {
+        front[i] = *number;
+    }
     clear::zero_numbers(rest);
 }
 

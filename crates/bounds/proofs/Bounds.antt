@@ -20,7 +20,7 @@ use Rattle.bounds.specs.Chain.{LowerBound}
 use Rattle.bounds.specs.Inner.Removals.{PiecesWithin, whole, Removal, Series, savings, AllFit, gain, AllMost, Falls}
 use Rattle.bounds.specs.Inner.Removals.Series.{done, next}
 use Rattle.bounds.proofs.Numbers.{sum_same, sum_le, mem_sum, le_max, max_le, max_reached}
-use Rattle.bounds.proofs.BoundLaws.{saving_cost, saving_grows, saving_full, saving_le, cost_all, cost_pos}
+use Rattle.bounds.proofs.BoundLaws.{saving_cost, saving_grows, saving_full, saving_le, cost_all, cost_pos, cost_self}
 use Rattle.bounds.proofs.ChainLaws.{lower_lt}
 use Rattle.bounds.proofs.Savings.{savings_first, and_sub, and_le}
 use Rattle.bounds.proofs.Steps.{whole_within, step_first, step_second, step_within}
@@ -35,6 +35,11 @@ left_over k T R h = omega (arith, div-add-mod R k)
 pub usable_term : (k T R : ℕ) → R ≤ T → usable_edges k T R ≡ saving k T R
 unfolding usable_edges saving
 usable_term k T R h = rw (left_over k T R h)
+
+-- its subtractions are not cut short
+pub usable_whole : (k T R : ℕ) → 2 ≤ k → R ≤ T → (R / k ≤ T) × (ceil_div ((T - R) + R % k) (k - 1) ≤ T - R / k)
+unfolding cost
+usable_whole k T R two h = rw (left_over k T R h) (let e = cost_self k two T R h in (omega arith, omega arith))
 
 module _ (c : ℕ → ℕ) (k F W : ℕ) (within : Sub F W) where
   -- the bound is what the pieces can save, less c k

@@ -9,19 +9,19 @@ ghost use Rattle.state.specs.Inner.Scan.{rows_of, Told};
 ghost use Rattle.branch.specs.Inner.Entered.{Entered};
 ghost use Rattle.branch.specs.Inner.Branching.{least_tried, Passes, Branched, Chooses, Below};
 
-use arrayvec::ArrayVec;
 use searched::Searched;
 use state::scan::{Owners, Rows, Scanned};
+use state::sets::Sets;
 use state::{State, scan};
 
 pub mod removals;
 pub mod searched;
 
 // What the removals of a state are tried from: its pieces; the pieces held; the least size tried; where the removable matches begin.
-#[derive(Clone, Drop)]
+#[derive(Clone, Copy, Drop)]
 pub struct Branch<'a> {
     pub owners: Owners<'a>,
-    pub held: ArrayVec<u64, 32>,
+    pub held: Sets<32>,
     pub least: u64,
     pub first: usize,
 }
@@ -74,13 +74,14 @@ pub fn branch_of<'a>(searched: &Searched, s: &'a State, best: u32) -> Branch<'a>
     requires { (best ≤ 64) × Entered searched.now.molecule.now.bytes.now s.now }
     ensures { Branched searched.now.molecule.now.bytes.now searched.now.setting s.now best result }
 {
-    let owners = Owners::of(&s.pieces);
+    let pieces = s.pieces.as_slice();
+    let owners = Owners::of(pieces);
     let mut masks = [0u64; 33];
     let scanned = crate::masks(&searched.rows, s.next, &owners, &mut masks);
-    let mut held = ArrayVec::new();
-    state::keep(&searched.molecule.touch, &s.pieces, masks[2], &mut held);
+    let mut held = Sets::new();
+    state::keep(&searched.molecule.touch, pieces, masks[2], &mut held);
     let edges = searched.setting.has_matchable_edges();
-    let least = least_tried(edges, &masks, &s.pieces, s.index, best, scanned.largest);
+    let least = least_tried(edges, &masks, pieces, s.index, best, scanned.largest);
     Branch {
         owners,
         held,
@@ -89,10 +90,10 @@ pub fn branch_of<'a>(searched: &Searched, s: &'a State, best: u32) -> Branch<'a>
     }
 }
 
-// The state after match m is removed.
-pub fn below(searched: &Searched, s: &State, held: &[u64], m: usize) -> State
-    requires { Entered searched.now.molecule.now.bytes.now s.now × Chooses searched.now.molecule.now.bytes.now s.now held.now m }
-    ensures { Below searched.now.molecule.now.bytes.now s.now m result }
+// S becomes the state after match m is removed.
+pub fn below(searched: &Searched, s: &mut State, held: &[u64], m: usize)
+    requires { Entered searched.now.molecule.now.bytes.now s.old × Chooses searched.now.molecule.now.bytes.now s.old held.now m }
+    ensures { Below searched.now.molecule.now.bytes.now s.old m s.new }
 {
     state::child(
         &searched.molecule.touch,
@@ -100,5 +101,5 @@ pub fn below(searched: &Searched, s: &State, held: &[u64], m: usize) -> State
         held,
         m,
         &searched.rows.words[m],
-    )
+    );
 }

@@ -11,11 +11,11 @@ use crate::{compare, peel, strings};
 use molecule::Molecule;
 use std::marker::Model;
 
-// A slate, seen as the label that it keeps: 66 slots of 456 bytes. The struct is made once and lent, and never copied. The slots are one array, and no
-// array of arrays: a string goes from slot to slot by copy_within, which works inside one slice.
+// A slate, seen as the label that it keeps: 66 slots of 456 bytes, any that are `Slots`. The struct is made once and lent, and never copied. The slots
+// are one array, and no array of arrays: a string goes from slot to slot by copy_within, which works inside one slice.
 #[derive(Drop)]
 pub struct Slate {
-    bytes: [u8; 30096],
+    pub bytes: [u8; 30096],
 }
 
 impl Model for Slate {

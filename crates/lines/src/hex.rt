@@ -1,10 +1,18 @@
 // Hexadecimal digits, two to a byte.
-ghost use Rattle.std.specs.Prelude.{◌+◌, ◌*◌, ◌<◌};
+ghost use Rattle.std.specs.Prelude.{◌≡◌, ◌+◌, ◌*◌, ◌<◌};
 ghost use Rattle.std.specs.Char.{digit_value};
 ghost use Rattle.std.specs.Option.{SomeIff, option_map};
 ghost use Rattle.lines.specs.Hex.{Decoded, DecodedRecord};
 
 use arrayvec::ArrayVec;
+
+// The digit, in lower case, of a number below 16.
+pub fn digit_of(x: u8) -> u8
+    requires { x < 16 }
+    ensures { digit_value result ≡ x }
+{
+    if x < 10 { b'0' + x } else { b'a' + (x - 10) }
+}
 
 // The byte that two digits spell, of either case.
 fn byte(high: u8, low: u8) -> Option<u8>

@@ -2,6 +2,7 @@
 ghost use Rattle.std.specs.Prelude.{◌≡◌, ◌<◌, [], ◌∷◌, ◌++◌};
 ghost use Rattle.arrayvec.specs.ArrayVec.{array_vec_len};
 
+use crate::hex;
 use arrayvec::ArrayVec;
 use molecule::Refusal;
 use std::fmt;
@@ -53,7 +54,8 @@ impl<'a, P: Print> Output<'a, P> {
     // Puts bytes in hexadecimal, two digits to each.
     pub fn print_hex(&mut self, bytes: &[u8]) {
         for b in bytes {
-            self.print(format_args!("{b:02x}"));
+            self.put(hex::digit_of(b / 16));
+            self.put(hex::digit_of(b % 16));
         }
     }
 

@@ -31,7 +31,7 @@ use Rattle.recurse.specs.declared.visit.Found.{Found}
 use Rattle.recurse.specs.declared.visit.Halt.{Halt}
 use Rattle.recurse.specs.declared.visit.Halt.TheVariants.{Budget, Memo as MemoFull}
 use Rattle.memoize.specs.declared.Full.{Full}
-use Rattle.state.specs.Inner.Views.{trail_of, state_of}
+use Rattle.state.specs.Inner.Views.{sets_of, trail_of, state_of}
 use Rattle.desk.specs.Inner.Cached.{Cached}
 use Rattle.memoize.specs.Inner.Stored.{Fragments, Stored, entry_with, MemoAnswers}
 use Rattle.branch.specs.Inner.Entered.{Entered}
@@ -171,13 +171,13 @@ module _ {r : Bytes} (ok : check r ≡ accepted) {setting : Setting} {s : code.S
       rw (p, l) at (T.first r (pairs r) (table_laws r ok) w)
 
   -- it is removable from the pieces held
-  turn_chooses : {least n m : ℕ} → FirstIs r (pairs r) (state_of s).pieces least n m → start.from ≤ n → (held : List ℕ) → held ≡ b.held.items → Chooses r s held m
+  turn_chooses : {least n m : ℕ} → FirstIs r (pairs r) (state_of s).pieces least n m → start.from ≤ n → (held : List ℕ) → held ≡ sets_of b.held → Chooses r s held m
   turn_chooses N a held h =
       record { after = omega (arith, B.after, is.3, ap (λ (x : Removals). x.from) begins, a, N.after); within = N.within; removes = N.removes; keeps = h ∙ B.held }
 
   -- where there is a next, both
   pub turn_of : {left next : Removals} {m : ℕ} → Tries left (Some m) next → left.rows.now ≡ start.rows.now → left.owners.now ≡ start.owners.now → left.least ≡ start.least
-      → start.from ≤ left.from → (held : List ℕ) → held ≡ b.held.items → FirstIs r (pairs r) (state_of s).pieces start.least left.from m × Chooses r s held m
+      → start.from ≤ left.from → (held : List ℕ) → held ≡ sets_of b.held → FirstIs r (pairs r) (state_of s).pieces start.least left.from m × Chooses r s held m
   turn_of T e o l a held h = let N = turn_first T e o l in (N, turn_chooses N a held h)
 
 -- ---- the loop over the removals

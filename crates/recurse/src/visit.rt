@@ -54,7 +54,7 @@ fn int_stops(setting: Setting, s: &State, best: u32) -> bool
     if !setting.has_int() {
         return false;
     }
-    let j = bounds::int_bound(&s.pieces, s.largest);
+    let j = bounds::int_bound(s.pieces.as_slice(), s.largest);
     u64::from(best) + u64::from(j) <= u64::from(s.index)
 }
 
@@ -103,7 +103,7 @@ fn enter(
         searched.molecule,
         memo,
         run.entries,
-        &s.pieces,
+        s.pieces.as_slice(),
         s.index,
         s.trail.numbers(),
         desk,
@@ -168,7 +168,8 @@ fn visit(
     let mut found = own_answer(s, next);
     let b = branch::branch_of(searched, s, next.best);
     for m in b.removals(&searched.rows) {
-        let c = branch::below(searched, s, &b.held, m);
+        let mut c = *s;
+        branch::below(searched, &mut c, b.held.as_slice(), m);
         let child = visit(searched, memo, desk, slate, &c, found.run)?;
         found = better(found, child);
     }

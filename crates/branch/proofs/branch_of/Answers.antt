@@ -9,7 +9,7 @@ use Rattle.branch.proofs.branch_of.Goals as goal
 pub keep-requires : goal.keep-requires
 keep-requires c =
     let M = c.args.searched.now.molecule.now in
-    (search rules, rw c.deref-2.ensures.0 (pieces_sum M.bytes.now M.accepted (state_of c.args.s.now) c.requires.1.fine))
+    (search rules, rw c.as_slice-pieces.ensures.is (pieces_sum M.bytes.now M.accepted (state_of c.args.s.now) c.requires.1.fine))
 
 pub least_tried-least-requires : goal.least_tried-least-requires
 least_tried-least-requires c =
@@ -17,9 +17,9 @@ least_tried-least-requires c =
     let r = S.molecule.now.bytes.now in
     let ok = S.molecule.now.accepted in
     let E = c.requires.1 in
-    let t = rw (c.of-owners.ensures ∙ c.deref.ensures.0) at (c.masks-scanned.ensures r (pairs r) (table_laws r ok) S.listed) in
+    let t = rw (c.of-owners.ensures ∙ c.as_slice-pieces.ensures.is) at (c.masks-scanned.ensures r (pairs r) (table_laws r ok) S.listed) in
     let n = told_few r ok c.args.s.now E _ _ _ t in
-    (omega (arith, n), c.deref-3.ensures.1, c.requires.0, omega (arith, n), told_within r ok c.args.s.now E _ _ _ t)
+    (omega (arith, n), c.as_slice-pieces.ensures.few, c.requires.0, omega (arith, n), told_within r ok c.args.s.now E _ _ _ t)
 
 pub returns : goal.returns
 returns c =
@@ -28,12 +28,12 @@ returns c =
     let r = S.molecule.now.bytes.now in
     let ok = S.molecule.now.accepted in
     let E = c.requires.1 in
-    let p = c.of-owners.ensures ∙ c.deref.ensures.0 in
+    let p = c.of-owners.ensures ∙ c.as_slice-pieces.ensures.is in
     let t = rw p at (c.masks-scanned.ensures r (pairs r) (table_laws r ok) S.listed) in
     record {
       pieces = p;
-      held = told_holds r ok a.s.now E _ _ _ t S.molecule.now.touch S.molecule.now.touching _ (rw c.deref-2.ensures.0 at c.keep.ensures);
+      held = told_holds r ok a.s.now E _ _ _ t S.molecule.now.touch S.molecule.now.touching _ (rw c.as_slice-pieces.ensures.is at c.keep.ensures);
       after = t.after;
       within = t.within;
-      tries = told_tries r ok a.s.now E _ _ _ t _ a.best _ (rw (c.deref-3.ensures.0, c.has_matchable_edges-edges.ensures) at c.least_tried-least.ensures);
+      tries = told_tries r ok a.s.now E _ _ _ t _ a.best _ (rw (c.as_slice-pieces.ensures.is, c.has_matchable_edges-edges.ensures) at c.least_tried-least.ensures);
     }

@@ -12,7 +12,7 @@ use Rattle.search.specs.Inner.Claims.{held_of}
 use Rattle.state.specs.declared.State.{State}
 use Rattle.branch.specs.declared.Branch.{Branch}
 use Rattle.branch.specs.declared.removals.Removals.{Removals}
-use Rattle.state.specs.Inner.Views.{state_of}
+use Rattle.state.specs.Inner.Views.{sets_of, state_of}
 use Rattle.state.specs.Inner.Scan.{goes, rows_of}
 use Rattle.branch.specs.Inner.Entered.{Entered}
 use Rattle.branch.specs.Inner.Trying.{tried_from, First}
@@ -38,7 +38,7 @@ pub record Tries (s : Removals) (m : Option ℕ) (t : Removals) : Type 0 where
 -- what a state's removals are tried from, also for any other setting with the same bound of sizes
 pub record Branched (r : Bytes) (setting : Setting) (s : State) (best : ℕ) (b : Branch) : Type 0 where
   pub pieces : b.owners.pieces.now ≡ (state_of s).pieces
-  pub held : b.held.items ≡ held_of r (pairs r) (state_of s)
+  pub held : sets_of b.held ≡ held_of r (pairs r) (state_of s)
   pub after : s.next ≤ b.first
   pub within : b.first ≤ length (pairs r)
   pub tries : (other : Setting) (room : ℕ) → has_matchable_edges other ≡ has_matchable_edges setting

@@ -14,7 +14,7 @@ loop-rest-smaller-then-without_lowest-ne0 g c = pushing_less c.loop-rest.invaria
 
 pub loop-rest-preserved-then-without_lowest-ne0 : goal.loop-rest-preserved-then-without_lowest-ne0
 loop-rest-preserved-then-without_lowest-ne0 g c =
-    pushing_take c.loop-rest.invariant c.loop-rest-test.true c.lowest.ensures c.component-c.ensures c.without_lowest.ensures c.difference-rest.ensures c.if-without_lowest-ne0.true c.push.ensures.items
+    pushing_take c.loop-rest.invariant c.loop-rest-test.true c.lowest.ensures c.component-c.ensures c.without_lowest.ensures c.difference-rest.ensures c.if-without_lowest-ne0.true c.push.ensures
 
 pub loop-rest-smaller : goal.loop-rest-smaller
 loop-rest-smaller g c = pushing_less c.loop-rest.invariant c.loop-rest-test.true c.lowest.ensures c.component-c.ensures c.difference-rest.ensures

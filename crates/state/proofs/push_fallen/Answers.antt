@@ -11,7 +11,7 @@ push-requires g c =
 
 pub returns-then-is_disjoint : goal.returns-then-is_disjoint
 returns-then-is_disjoint g c =
-    rw (fallen_same c.args.touch.now c.args.gone c.args.p (eqb-true _ _ (sym c.is_disjoint.ensures ∙ c.if-is_disjoint.true))) c.push.ensures.items
+    rw (fallen_same c.args.touch.now c.args.gone c.args.p (eqb-true _ _ (sym c.is_disjoint.ensures ∙ c.if-is_disjoint.true))) c.push.ensures
 
 pub returns-else-is_disjoint : goal.returns-else-is_disjoint
 returns-else-is_disjoint g c =

@@ -33,13 +33,13 @@ pub ask-asked-requires : goal.ask-asked-requires
 ask-asked-requires c =
     let p = c.requires in
     let M = c.args.searched.now.molecule.now in
-    (p.1, p.2, rw c.deref.ensures.0 (fragments_of M.bytes.now c.args.s.now M.accepted p.0), rw (c.deref.ensures.0, c.numbers.ensures) p.0.both)
+    (p.1, p.2, rw c.as_slice.ensures.is (fragments_of M.bytes.now c.args.s.now M.accepted p.0), rw (c.as_slice.ensures.is, c.numbers.ensures) p.0.both)
 
 pub returns-clause-gated : goal.returns-clause-gated
 returns-clause-gated c = λ m w.
     let a = c.args in
     let r = a.searched.now.molecule.now.bytes.now in
     let stops = sym (c.int_stops.ensures r (pairs r) _ _ refl) ∙ c.if-int_stops.false in
-    let asked = rw (c.deref.ensures.0, c.numbers.ensures) at (c.ask-asked.ensures.answer m w) in
+    let asked = rw (c.as_slice.ensures.is, c.numbers.ensures) at (c.ask-asked.ensures.answer m w) in
     rw c.passed.ensures
     (gated_memo r a.searched.now.setting _ a.s.now a.run m c.if-setting-run.false _ (record { best = refl; states = add-one _ }) stops _ _ w (sym c.has_memo.ensures ∙ c.if-not-has_memo.false) _ _ _ refl refl asked)

@@ -10,4 +10,4 @@ returns-then-not-has_int c = λ r ms other room e. stops_off r ms other room _ _
 pub returns : goal.returns
 returns c = λ r ms other room e.
     rw (c.from.ensures, c.from-2.ensures, c.from-3.ensures)
-    (stops_on r ms other room (state_of c.args.s.now) c.args.best (e ∙ sym c.has_int.ensures ∙ c.if-not-has_int.false) _ (rw c.deref.ensures.0 at c.int_bound-j.ensures))
+    (stops_on r ms other room (state_of c.args.s.now) c.args.best (e ∙ sym c.has_int.ensures ∙ c.if-not-has_int.false) _ (rw c.as_slice.ensures.is at c.int_bound-j.ensures))
