@@ -61,8 +61,8 @@ def blanked(text: str, comment: str) -> str:
     def blank(found: re.Match[str]) -> str:
         return found[0] if found[0].startswith('"') else re.sub(r"[^\n]", " ", found[0])
 
-    block = r"\{-.*?-\}|" if comment == "--" else ""
-    return re.sub(rf'"(?:\\.|[^"\\\n])*"|{block}(?<!\S){comment}[^\n]*', blank, text, flags=re.DOTALL)
+    rest = r"\{-.*?-\}|(?<!\S)--[^\n]*" if comment == "--" else rf"/\*.*?\*/|{comment}[^\n]*"
+    return re.sub(rf'"(?:\\.|[^"\\\n])*"|{rest}', blank, text, flags=re.DOTALL)
 
 
 @functools.lru_cache(maxsize=None)

@@ -25,21 +25,30 @@ def seams(root: pathlib.Path) -> subprocess.CompletedProcess:
     return subprocess.run([root / "tools" / "seams"], capture_output=True, text=True, check=False)
 
 
-def above(root: pathlib.Path, attribute: str) -> None:
-    """Puts an attribute above `equal_labels` of desk."""
+def above(root: pathlib.Path, line: str, before: str = "pub fn equal_labels(") -> None:
+    """Puts a line above one of desk that begins so."""
     file = root / "crates" / "desk" / "src" / "lib.rt"
     text = file.read_text(encoding="utf-8")
-    assert text.count("fn equal_labels(") == 1
-    line = text.rindex("\n", 0, text.index("fn equal_labels(")) + 1
-    file.write_text(f"{text[:line]}{attribute}\n{text[line:]}", encoding="utf-8")
+    assert text.count(before) == 1
+    place = text.index(before)
+    file.write_text(f"{text[:place]}{line}\n{text[place:]}", encoding="utf-8")
 
 
 def test_the_sources_keep_to_it(sources: pathlib.Path) -> None:
     assert seams(sources).returncode == 0
 
 
-def test_a_definition_opened_above_a_function(sources: pathlib.Path) -> None:
-    above(sources, "#[tactic(auto, unfolding(canonize::specs::Label::label))]")
+@pytest.mark.parametrize(
+    "attribute",
+    [
+        "#[tactic(auto, unfolding(canonize::specs::Label::label))]",
+        "#[tactic(\n    auto, // a ]\n    unfolding (canonize :: specs::Label::label),\n)]",
+        "# ! [ tactic (auto, unfolding(canonize::specs::Label::label)) ]",
+        "ghost use Rattle.canonize.specs.Label.{label};\nghost law = { unfold label in refl };",
+    ],
+)
+def test_a_definition_opened_in_the_code(sources: pathlib.Path, attribute: str) -> None:
+    above(sources, attribute)
     said = seams(sources)
     assert said.returncode == 1
     assert "desk opens label of canonize" in said.stderr

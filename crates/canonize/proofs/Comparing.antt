@@ -1,14 +1,11 @@
--- Equal strings, and the order of lists of numbers, as the library's comparisons answer them.
-use Rattle.std.proofs.Common.{◌≡◌, ◌≢◌, ◌∙◌, ◌↔◌, ◌&&◌, ◌<◌, ◌≤◌, ◌+◌, ℕ, suc, min, add-one, sym, length, get_or, drop, nat_lt, nat_le, Bool, true, false, not, List, [], ◌∷◌, refl, arith, eqb, Some, nat_cmp, is_le, is_gt, Ordering}
+-- Equal strings, and the order of lists of numbers, as the library's comparisons answer them and as a loop finds it, place by place.
+use Rattle.std.proofs.Common.{◌≡◌, ◌∙◌, ◌↔◌, ◌&&◌, ◌<◌, ◌+◌, ℕ, suc, add-one, length, get_or, drop, Bool, true, false, not, List, [], ◌∷◌, refl, arith, eqb, Some, nat_cmp, is_le, is_gt, Ordering}
 use lib.Seq.{drop-cons}
-use borrow.Author.Tests.{ltb-true, ltb-false, leb-true, leb-false}
-use mathlib.Core.Logic.{◌⊎◌, inl, inr}
 use Rattle.std.proofs.lemmas.List.{drop_all}
 use Rattle.std.proofs.lemmas.Cmp.{same_from_slice_cmp, same_from_slice_cmp_tested}
 use Rattle.std.proofs.lemmas.Bool.Decides.{nat_tests}
 use Rattle.std.specs.Cmp.Lexicographic.{slice_cmp, slice_partial_cmp, pointwise, bytes_decides}
 use Rattle.std.specs.Ordering.{is_some_and}
-use Rattle.bitset.proofs.Bools.{two}
 use Rattle.molecule.specs.Lists.{Bytes, pick}
 use Rattle.canonize.specs.Strings.{lex_le, same}
 use Rattle.canonize.proofs.Sorting.{lexle_below, lexle_above, lexle_same}

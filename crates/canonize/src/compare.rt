@@ -21,7 +21,7 @@ pub fn less_or_equal(x: &[u8], y: &[u8]) -> bool
     true
 }
 
-// x and y are equal. This and less_or_equal are a library's call each, under the names that the definitions have.
+// x and y are equal. A library's call, under the name that the definition has.
 #[tactic(auto, using(crate::proofs::Comparing::same_pointwise))]
 pub fn equal(x: &[u8], y: &[u8]) -> bool
     ensures { result ≡ same x.now y.now }
