@@ -1,4 +1,6 @@
-// score: the public call. Rows 1 to 6 by Molecule::read, 7 and 8, then the match table (rows 9 and 10), then the search (rows 11 and 12).
+// score: the public call. Rows 1 to 6 and 15 by check, 7 and 8, then the match table (rows 9 and 10), then the search (rows 11 and 12).
+ghost use Rattle.std.specs.Prelude.{◌≡◌};
+ghost use Rattle.molecule.specs.Check.{check, accepted};
 ghost use Rattle.assembly.specs.Answer.{loan, answer_to};
 ghost use Rattle.assembly.specs.Contract.{Answers};
 ghost use Rattle.assembly.specs.Inner.Parts.{AnswerTold, Admitted, TablesZero};
@@ -55,9 +57,9 @@ fn answer_and_clear(
     scored
 }
 
-// score of a molecule: rows 7 and 8 first.
+// score of an accepted record: rows 7 and 8 first, which need no molecule.
 fn score_accepted(
-    molecule: &Molecule,
+    bytes: &[u8],
     setting: Setting,
     trail: &mut [u32],
     parts: &mut [u64],
@@ -65,7 +67,8 @@ fn score_accepted(
     memo: &mut [u64],
     desk: &mut [u64],
 ) -> Result<Score, ScoreRefusal>
-    ensures { Answers molecule.now.bytes.now setting
+    requires { check bytes.now ≡ accepted }
+    ensures { Answers bytes.now setting
         (loan trail.old parts.old pairs.old memo.old desk.old)
         (loan trail.new parts.new pairs.new memo.new desk.new) result }
 {
@@ -81,7 +84,15 @@ fn score_accepted(
     if desk.len() < 4096 {
         return Err(ScoreRefusal::Lent);
     }
-    answer_and_clear(molecule, setting, trail, parts, pairs, memo, desk)
+    answer_and_clear(
+        &Molecule::of(bytes),
+        setting,
+        trail,
+        parts,
+        pairs,
+        memo,
+        desk,
+    )
 }
 
 // The score of a record. It is document 01's answer; the trail and the four tables end as document 01 says; and of a score demand 3 holds.
@@ -98,6 +109,6 @@ pub fn score(
         (loan trail.old parts.old pairs.old memo.old desk.old)
         (loan trail.new parts.new pairs.new memo.new desk.new) result }
 {
-    let molecule = Molecule::read(bytes)?;
-    score_accepted(&molecule, setting, trail, parts, pairs, memo, desk)
+    molecule::check(bytes)?;
+    score_accepted(bytes, setting, trail, parts, pairs, memo, desk)
 }

@@ -25,9 +25,17 @@ impl<'a> Molecule<'a> {
         ensures err { IfErr result (λ f. check bytes.now ≡ refused (number_of f) (place_of f)) }
     {
         crate::check(bytes)?;
+        Ok(Molecule::of(bytes))
+    }
+
+    // The molecule of an accepted record.
+    pub fn of(bytes: &'a [u8]) -> Molecule<'a>
+        requires { check bytes.now ≡ accepted }
+        ensures { result.bytes.now ≡ bytes.now }
+    {
         let at = graph::bonds_at(bytes);
         let touch = graph::touching_from(bytes, &at);
-        Ok(Molecule { bytes, at, touch })
+        Molecule { bytes, at, touch }
     }
 }
 
